@@ -1,0 +1,3 @@
+-- Laws of the definitions of specs/ and of `lib.Ieee`'s operations.
+pub mod Sign
+pub mod Special

@@ -1,0 +1,50 @@
+// Tests of one float: NaN, finite; its size and its sign.
+ghost use mathlib.Core.Path.{_≡_};
+ghost use lib.Ieee.{isNan};
+ghost use lib.Ieee.Scale.{finite};
+ghost use Rattle.floats.specs.Compare.{abs, isNegative, signum};
+
+pub fn is_nan(x: f32) -> bool
+    ensures { λ r. ⌜ r ≡ isNan x ⌝ }
+{
+    x != x
+}
+
+pub fn is_finite(x: f32) -> bool
+    ensures { λ r. ⌜ r ≡ finite x ⌝ }
+{
+    x - x == 0.0
+}
+
+// The size: a NaN stays one, and both zeros give +0.0.
+pub fn abs(x: f32) -> f32
+    ensures { λ r. ⌜ r ≡ abs x ⌝ }
+{
+    if is_negative(x) {
+        return -x;
+    }
+    x
+}
+
+// Whether x has the sign of a number below zero, as -0.0 has. A NaN has not.
+pub fn is_negative(x: f32) -> bool
+    ensures { λ r. ⌜ r ≡ isNegative x ⌝ }
+{
+    if x != x {
+        return false;
+    }
+    2147483648 <= f32::to_bits(x)
+}
+
+// 1.0 with the sign of x, a zero's too; a NaN stays one.
+pub fn signum(x: f32) -> f32
+    ensures { λ r. ⌜ r ≡ signum x ⌝ }
+{
+    if x != x {
+        return x;
+    }
+    if is_negative(x) {
+        return -1.0;
+    }
+    1.0
+}

@@ -2,6 +2,7 @@
 ghost use mathlib.Core.Path.{_≡_};
 ghost use Prim.Native.Nat.{_<_};
 ghost use lib.Ieee.{binary32, ofBits, toBits};
+ghost use Rattle.floats.specs.Bits.{le-word, le-bytes};
 
 // The float that a pattern stands for. Every NaN pattern gives a NaN.
 pub fn from_bits(bits: u32) -> f32
@@ -21,4 +22,24 @@ pub fn to_bits(x: f32) -> u32
         return 2143289344;
     }
     f32::to_bits(x)
+}
+
+// The float of four bytes, the low byte first.
+pub fn from_le_bytes(b0: u8, b1: u8, b2: u8, b3: u8) -> f32
+    ensures { λ r. ⌜ r ≡ ofBits binary32 (le-word b0 b1 b2 b3) ⌝ }
+{
+    from_bits((b0 as u32) + 256 * (b1 as u32) + 65536 * (b2 as u32) + 16777216 * (b3 as u32))
+}
+
+// The four bytes of a float, the low byte first.
+pub fn to_le_bytes(x: f32) -> [u8; 4]
+    ensures { λ r. ⌜ r ≡ le-bytes (toBits binary32 x) ⌝ }
+{
+    let bits = to_bits(x);
+    [
+        (bits % 256) as u8,
+        (bits / 256 % 256) as u8,
+        (bits / 65536 % 256) as u8,
+        (bits / 16777216 % 256) as u8,
+    ]
 }

@@ -6,3 +6,4 @@
 pub mod bits;
 pub mod compare;
 pub mod minmax;
+pub mod narrow;

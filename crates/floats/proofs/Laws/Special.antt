@@ -4,7 +4,7 @@ use Prim.Native.Nat.{ℕ, _*_, _%_, _≤_, _<_}
 use native.Mathlib.Nat.{zero-mul, sub-self, zero-lt-suc, mul-pos, le-refl}
 use mathlib.Core.Bool.{Bool, true, false, not, false≢true}
 use lib.IntN.{pos}
-use lib.Ieee.{Float, nan, inf, fin, Format, binary32, binary64, up, down, hid, ones, top, isNan, nanBits, ofBits, round, sum, sub, eq, ne}
+use lib.Ieee.{Float, nan, inf, fin, Format, binary32, binary64, up, down, hid, ones, top, isNan, nanBits, ofBits, round, sum, sub, div, eq, ne}
 use lib.Ieee.Bits.{nanBits-is, nanBits-above}
 use lib.Ieee.Fits.{down-pos}
 use lib.Ieee.Scale.{finite, round-same}
@@ -31,6 +31,11 @@ nan-by-ne x t = is-nan x (sym (ne-itself x) ∙ t)
 
 pub number-by-ne : (x : Float) → ne x x ≡ false → isNan x ≡ false
 number-by-ne x t = sym (ne-itself x) ∙ t
+
+-- how the code makes one
+pub no-quotient : div binary32 (ofBits binary32 0) (ofBits binary32 0) ≡ nan
+unfolding div ofBits
+no-quotient = refl
 
 -- without the sign's bit a NaN's pattern is above the infinity's
 pub above-infinity : (f : Format) (b : ℕ) → ones f * hid f < b % top f → ofBits f b ≡ nan

@@ -1,14 +1,10 @@
 -- `floats::bits::from_bits` meets its contract: the test tells the NaN patterns. Assumes nothing.
-use mathlib.Core.Path.{sym, _∙_, refl, _≡_}
-use lib.Ieee.{nan, binary32, ofBits, div}
+use mathlib.Core.Path.{sym, _∙_}
+use lib.Ieee.{binary32}
 use borrow.Author.Needs.{needs}
-use Rattle.floats.proofs.Laws.Special.{above-infinity, up-to-infinity}
+use Rattle.floats.proofs.Laws.Special.{no-quotient, above-infinity, up-to-infinity}
 use Rattle.floats.proofs.bits.from_bits.Statement.{statement}
 use Rattle.floats.proofs.bits.from_bits.Tie as tie
-
-no-quotient : div binary32 (ofBits binary32 0) (ofBits binary32 0) ≡ nan
-unfolding div ofBits
-no-quotient = refl
 
 returns : tie.Need-returns
 returns c = no-quotient ∙ sym (above-infinity binary32 (c .before .args .bits) (c .if1 .taken))

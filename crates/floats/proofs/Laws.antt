@@ -1,15 +1,18 @@
 -- Laws of the definitions of specs/ and of `lib.Ieee`'s operations, over any format where they can be.
--- The order of floats, and rounding.
+-- The order of floats, rounding, and the operations.
 pub mod Order
 pub mod Round
 pub mod Fractions
 pub mod Sum
+pub mod Product
 pub mod Grid
--- Patterns, signs and special values.
+-- Signs, special values and bit patterns.
 pub mod Special
 pub mod Sign
-pub mod Value
+pub mod Nearest
 pub mod Fields
 pub mod Pattern
-pub mod Nearest
+-- The leaves' own definitions.
+pub mod MinMax
 pub mod Narrow
+pub mod Sqrt

@@ -4,3 +4,4 @@ pub mod Ops
 pub mod Compare
 pub mod MinMax
 pub mod Narrow
+pub mod Sqrt

@@ -4,6 +4,9 @@ ghost use lib.Ieee.{isNan};
 ghost use lib.Ieee.Scale.{finite};
 ghost use Rattle.floats.specs.Compare.{abs, isNegative, signum};
 
+// The weight of the sign's bit in a pattern, 2^31.
+const SIGN: u32 = 2147483648;
+
 pub fn is_nan(x: f32) -> bool
     ensures { λ r. ⌜ r ≡ isNan x ⌝ }
 {
@@ -16,14 +19,14 @@ pub fn is_finite(x: f32) -> bool
     x - x == 0.0
 }
 
-// The size: a NaN stays one, and both zeros give +0.0.
+// The size: x without the sign's bit. A NaN stays one, and both zeros give +0.0.
 pub fn abs(x: f32) -> f32
     ensures { λ r. ⌜ r ≡ abs x ⌝ }
 {
-    if is_negative(x) {
-        return -x;
+    if x != x {
+        return x;
     }
-    x
+    f32::from_bits(f32::to_bits(x) % SIGN)
 }
 
 // Whether x has the sign of a number below zero, as -0.0 has. A NaN has not.
@@ -33,7 +36,7 @@ pub fn is_negative(x: f32) -> bool
     if x != x {
         return false;
     }
-    2147483648 <= f32::to_bits(x)
+    SIGN <= f32::to_bits(x)
 }
 
 // 1.0 with the sign of x, a zero's too; a NaN stays one.

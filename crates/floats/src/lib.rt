@@ -7,3 +7,4 @@ pub mod bits;
 pub mod compare;
 pub mod minmax;
 pub mod narrow;
+pub mod sqrt;

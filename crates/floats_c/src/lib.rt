@@ -4,6 +4,7 @@ ghost use lib.Ieee.{binary32, ofBits, toBits};
 ghost use Rattle.floats.specs.Compare.{abs, signum};
 ghost use Rattle.floats.specs.MinMax.{min, max, clamp};
 ghost use Rattle.floats.specs.Narrow.{convert};
+ghost use Rattle.floats.specs.Sqrt.{sqrt};
 
 #[no_mangle]
 pub extern "C" fn tarragonhoe_bits(bits: u32) -> u32
@@ -52,4 +53,11 @@ pub extern "C" fn tarragonhoe_clamp(x: f32, low: f32, high: f32) -> f32
     ensures { λ r. ⌜ r ≡ clamp x low high ⌝ }
 {
     floats::minmax::clamp(x, low, high)
+}
+
+#[no_mangle]
+pub extern "C" fn tarragonhoe_sqrtf(x: f32) -> f32
+    ensures { λ r. ⌜ r ≡ sqrt binary32 x ⌝ }
+{
+    floats::sqrt::sqrtf(x)
 }

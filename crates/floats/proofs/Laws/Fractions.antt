@@ -64,29 +64,35 @@ add-sum f (fin s' m e) (fin t' n d) s a t b c C v w =
     ∙ sum-same f s a t b c (m * up e * down d) (n * up d * down e) (down e * down d) C (mul-pos (down-pos e) (down-pos d))
     (common (m * up e) (down e) (down d) a c (v .1)) (common-swapped (n * up d) (down d) (down e) b c (w .1))
 
--- the sizes of like signs are added, and those of opposite signs subtracted. A sum that is exactly zero is +0 there.
-pub add-alike : (f : Format) (x y : Float) (s : Bool) (a b c : ℕ) → 0 < c → HasValue x s a c → HasValue y s b c → add f x y ≡ round f s (a + b) c
-add-alike f x y s a b c C v w = add-sum f x y s a s b c C v w ∙ sum-shape f s a s b c ∙ same s
+-- The sign and the size of ±a ± b: sizes of like signs are added, and of opposite signs the larger has the sign of the difference. Opposite numbers give +0.
+abbrev pub total-sign : Bool → ℕ → Bool → ℕ → Bool
+total-sign s a t b = cond (Bool·beq s t) s (cond (ltb a b) t (s && ltb b a))
+
+abbrev pub total-size : Bool → ℕ → Bool → ℕ → ℕ
+total-size s a t b = cond (Bool·beq s t) (a + b) (cond (ltb a b) (b - a) (a - b))
+
+pub add-rounds : (f : Format) (x y : Float) (s : Bool) (a : ℕ) (t : Bool) (b c : ℕ) → 0 < c → HasValue x s a c → HasValue y t b c → add f x y ≡ round f (total-sign s a t b) (total-size s a t b) c
+add-rounds f x y s a t b c C v w = add-sum f x y s a t b c C v w ∙ sum-shape f s a t b c ∙ go (Bool·beq s t) (ltb a b)
   where
-    same : (s : Bool) → cond (Bool·beq s s) (round f s (a + b) c) (cond (ltb a b) (round f s (b - a) c) (round f (s && ltb b a) (a - b) c)) ≡ round f s (a + b) c
+    go : (p q : Bool) → cond p (round f s (a + b) c) (cond q (round f t (b - a) c) (round f (s && ltb b a) (a - b) c))
+        ≡ round f (cond p s (cond q t (s && ltb b a))) (cond p (a + b) (cond q (b - a) (a - b))) c
+    go true q = refl
+    go false true = refl
+    go false false = refl
+
+pub add-alike : (f : Format) (x y : Float) (s : Bool) (a b c : ℕ) → 0 < c → HasValue x s a c → HasValue y s b c → add f x y ≡ round f s (a + b) c
+add-alike f x y s a b c C v w = add-rounds f x y s a s b c C v w ∙ same s
+  where
+    same : (s : Bool) → round f (total-sign s a s b) (total-size s a s b) c ≡ round f s (a + b) c
     same true = refl
     same false = refl
 
 pub add-opposite : (f : Format) (x y : Float) (s : Bool) (a b c : ℕ) → 0 < c → b ≤ a → HasValue x s a c → HasValue y (not s) b c → add f x y ≡ round f (s && ltb b a) (a - b) c
-add-opposite f x y s a b c C h v w = add-sum f x y s a (not s) b c C v w ∙ sum-shape f s a (not s) b c ∙ go s (le-ltb a b h)
+add-opposite f x y s a b c C h v w = add-rounds f x y s a (not s) b c C v w ∙ go s (le-ltb a b h)
   where
-    go : (s : Bool) → ltb a b ≡ false → cond (Bool·beq s (not s)) (round f s (a + b) c) (cond (ltb a b) (round f (not s) (b - a) c) (round f (s && ltb b a) (a - b) c)) ≡ round f (s && ltb b a) (a - b) c
+    go : (s : Bool) → ltb a b ≡ false → round f (total-sign s a (not s) b) (total-size s a (not s) b) c ≡ round f (s && ltb b a) (a - b) c
     go true e = rw e
     go false e = rw e
-
--- in every case it is one rounding over the same denominator
-pub add-rounds : (f : Format) (x y : Float) (s : Bool) (a : ℕ) (t : Bool) (b c : ℕ) → 0 < c → HasValue x s a c → HasValue y t b c → (u : Bool) × (n : ℕ) × (add f x y ≡ round f u n c)
-add-rounds f x y s a t b c C v w = go (Bool·beq s t) (ltb a b) (add-sum f x y s a t b c C v w ∙ sum-shape f s a t b c)
-  where
-    go : (p q : Bool) → add f x y ≡ cond p (round f s (a + b) c) (cond q (round f t (b - a) c) (round f (s && ltb b a) (a - b) c)) → (u : Bool) × (n : ℕ) × (add f x y ≡ round f u n c)
-    go true q e = (s, a + b, e)
-    go false true e = (t, b - a, e)
-    go false false e = (s && ltb b a, a - b, e)
 
 pub sub-neg : (f : Format) (x y : Float) → sub f x y ≡ add f x (neg y)
 unfolding sub
@@ -118,7 +124,7 @@ digits-pos n k b d B p = first-pos n (up k) (first-pos (n * up k) d (subst (λ (
 not-zero : (n : ℕ) → 0 < n → eqb n 0 ≡ false
 not-zero n h = ne-eqb n 0 (λ e. lt-irrefl 0 (subst (λ (z : ℕ). 0 < z) e h))
 
-div-fin : (f : Format) (s : Bool) (m : ℕ) (e : ℤ) (t : Bool) (n : ℕ) (d : ℤ) → 0 < n → div f (fin s m e) (fin t n d) ≡ round f (unlike s t) (m * up e * down d) (n * up d * down e)
+pub div-fin : (f : Format) (s : Bool) (m : ℕ) (e : ℤ) (t : Bool) (n : ℕ) (d : ℤ) → 0 < n → div f (fin s m e) (fin t n d) ≡ round f (unlike s t) (m * up e * down d) (n * up d * down e)
 unfolding div
 div-fin f s m e t n d h = ap (λ (z : Bool). cond z (cond (eqb m 0) nan (inf (unlike s t))) (round f (unlike s t) (m * up e * down d) (n * up d * down e))) (not-zero n h)
 

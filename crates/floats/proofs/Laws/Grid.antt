@@ -17,8 +17,8 @@ use lib.Ieee.Scale.{finite}
 use lib.Ieee.Positive.{num, den, den-pos}
 use Rattle.floats.specs.Compare.{abs, isNegative}
 use Rattle.floats.proofs.Laws.Order.{+0}
-use Rattle.floats.proofs.Laws.Fractions.{add-alike, add-opposite, add-rounds, sub-neg, mul-rounds, div-rounds, mod-scale, mod-same, common, common-swapped, digits-pos, rem-rounds}
-use Rattle.floats.proofs.Laws.Round.{Power, power-pos, up-power, down-power, mul-power, power-multiple, Holds, round-held, fits→holds, own-fraction, AtMost, le-of-fractions, lt-of-fractions, fractions-of-le, nonzero-size, value-finite, value-sign, value-abs, value-same, value-neg, finite-any-sign, round-neg, round-sign}
+use Rattle.floats.proofs.Laws.Fractions.{total-sign, total-size, add-alike, add-opposite, add-rounds, sub-neg, mul-rounds, div-rounds, mod-scale, mod-same, common, common-swapped, digits-pos, rem-rounds}
+use Rattle.floats.proofs.Laws.Round.{le-times, Power, power-pos, up-power, down-power, mul-power, power-multiple, Holds, round-held, fits→holds, own-fraction, AtMost, le-of-fractions, lt-of-fractions, fractions-of-le, nonzero-size, value-finite, value-sign, value-abs, value-same, value-neg, finite-any-sign, round-neg, round-sign}
 
 -- ---- a count of 2 ^ -g
 
@@ -34,7 +34,7 @@ pub round-count : (f : Format) (s : Bool) (a g : ℕ) → g ≤ low f → a ≤ 
 round-count f s a g h k = go (eq-or-lt-of-le k)
   where
     lowest : (u : ℕ) → 0 < u → 2 ^ g ≤ u * 2 ^ low f
-    lowest u U = le-trans (pow-mono h) (le-trans (le-mul-of-pos-right (2 ^ low f) U) (le-of-eq (mul-comm (2 ^ low f) u)))
+    lowest u U = le-times (2 ^ g) u (2 ^ low f) U (pow-mono h)
 
     go : (a ≡ 2 ^ prec f) ⊎ (a < 2 ^ prec f) → HasValue (round f s a (2 ^ g)) s a (2 ^ g)
     go (inl e) =
@@ -49,11 +49,20 @@ round-count f s a g h k = go (eq-or-lt-of-le k)
 
 -- ---- sums and differences of counts
 
+pub add-total-exact : (f : Format) (x y : Float) (s : Bool) (a : ℕ) (t : Bool) (b g : ℕ) → g ≤ low f → total-size s a t b ≤ 2 ^ prec f → HasValue x s a (2 ^ g) → HasValue y t b (2 ^ g)
+    → HasValue (add f x y) (total-sign s a t b) (total-size s a t b) (2 ^ g)
+add-total-exact f x y s a t b g h k v w = rw (add-rounds f x y s a t b (2 ^ g) (pow-pos g) v w) (round-count f (total-sign s a t b) (total-size s a t b) g h k)
+
+pub sub-total-exact : (f : Format) (x y : Float) (s : Bool) (a : ℕ) (t : Bool) (b g : ℕ) → g ≤ low f → total-size s a (not t) b ≤ 2 ^ prec f → HasValue x s a (2 ^ g) → HasValue y t b (2 ^ g)
+    → HasValue (sub f x y) (total-sign s a (not t) b) (total-size s a (not t) b) (2 ^ g)
+sub-total-exact f x y s a t b g h k v w = rw (sub-neg f x y) (add-total-exact f x (neg y) s a (not t) b g h k v (value-neg y t b (2 ^ g) w))
+
+-- of like signs
 pub add-exact : (f : Format) (x y : Float) (s : Bool) (a b g : ℕ) → g ≤ low f → a + b ≤ 2 ^ prec f → HasValue x s a (2 ^ g) → HasValue y s b (2 ^ g)
     → HasValue (add f x y) s (a + b) (2 ^ g)
 add-exact f x y s a b g h k v w = rw (add-alike f x y s a b (2 ^ g) (pow-pos g) v w) (round-count f s (a + b) g h k)
 
--- the difference has the sign of the larger
+-- of opposite signs, the larger first
 pub add-opposite-exact : (f : Format) (x y : Float) (s : Bool) (a b g : ℕ) → g ≤ low f → b ≤ a → a - b ≤ 2 ^ prec f → HasValue x s a (2 ^ g) → HasValue y (not s) b (2 ^ g)
     → HasValue (add f x y) (s && ltb b a) (a - b) (2 ^ g)
 add-opposite-exact f x y s a b g h l k v w = rw (add-opposite f x y s a b (2 ^ g) (pow-pos g) l v w) (round-count f (s && ltb b a) (a - b) g h k)
@@ -126,11 +135,11 @@ round-on-grid f true a g h t =
 
 -- and so is every finite sum of two
 pub add-on-grid : (f : Format) (x y : Float) (s : Bool) (a : ℕ) (t : Bool) (b g : ℕ) → g ≤ low f → HasValue x s a (2 ^ g) → HasValue y t b (2 ^ g) → T (finite (add f x y))
-    → (u : Bool) × (n : ℕ) × HasValue (add f x y) u n (2 ^ g)
+    → (n : ℕ) × HasValue (add f x y) (total-sign s a t b) n (2 ^ g)
 add-on-grid f x y s a t b g h v w p =
-    let r = add-rounds f x y s a t b (2 ^ g) (pow-pos g) v w in
-    let k = round-on-grid f (r .0) (r .1) g h (subst (λ (z : Float). T (finite z)) (r .2) p) in
-    (r .0, k .0, rw (r .2) (k .1))
+    let e = add-rounds f x y s a t b (2 ^ g) (pow-pos g) v w in
+    let k = round-on-grid f (total-sign s a t b) (total-size s a t b) g h (subst (λ (z : Float). T (finite z)) e p) in
+    (k .0, rw e (k .1))
 
 -- ---- products and quotients with a power of two
 
@@ -140,12 +149,11 @@ pub round-scaled : (f : Format) (s : Bool) (x : Float) (i j : ℕ) → T (fits f
 round-scaled f s (fin r m e) i j p q h k =
     let u = up e * 2 ^ i in
     let v = down e * 2 ^ j in
-    let l = 2 ^ low f * 2 ^ i in
     let is : m * up e * 2 ^ i ≡ m * u = mul-assoc m (up e) (2 ^ i) in
     round-held f s m u v m (m * up e * 2 ^ i) v (mul-power (up e) (2 ^ i) (up-power e) (i, refl)) (mul-power (down e) (2 ^ j) (down-power e) (j, refl))
     (record {
       digits = fits→holds f r m e p .digits;
-      lowest = le-trans h (le-trans (le-mul-of-pos-right l (up-pos e)) (le-of-eq (mul-comm l (up e) ∙ ap (λ (z : ℕ). up e * z) (mul-comm (2 ^ low f) (2 ^ i)) ∙ sym (mul-assoc (up e) (2 ^ i) (2 ^ low f)))));
+      lowest = le-trans (le-times v (up e) (2 ^ low f * 2 ^ i) (up-pos e) h) (le-of-eq (ap (λ (z : ℕ). up e * z) (mul-comm (2 ^ low f) (2 ^ i)) ∙ sym (mul-assoc (up e) (2 ^ i) (2 ^ low f))));
       under = subst (λ (z : ℕ). z < 2 ^ suc (emax f) * v) is k;
     }) (le-refl m) (mul-pos (down-pos e) (pow-pos j)) (ap (λ (z : ℕ). z * v) is)
 

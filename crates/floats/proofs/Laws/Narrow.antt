@@ -1,7 +1,7 @@
 -- What `narrow` makes of the pattern b of an `f64` x, in each of its three ranges. Assumes nothing.
 use mathlib.Core.Path.{_≡_, refl, sym, ap, _∙_, subst}
 use Prim.Native.Nat.{ℕ, _+_, _-_, _*_, _/_, _%_, _^_, _≤_, _<_, min}
-use native.Mathlib.Nat.{mul-assoc, mul-one, mul-le-mul, lt-of-lt-of-le, lt-of-not-le, lt-irrefl, zero-add, le-add-right, add-mul, mul-comm, mul-left-comm, add-comm, add-assoc}
+use native.Mathlib.Nat.{mul-assoc, mul-one, mul-le-mul, lt-of-lt-of-le, lt-of-not-le, lt-irrefl, zero-add, le-add-right, add-comm, add-assoc, mul-right-comm}
 use native.Mathlib.Decide.{decLe}
 use native.Mathlib.Omega.{arith}
 use mathlib.Core.Bool.{Bool, true, false, not, cond}
@@ -9,6 +9,8 @@ use lib.Dec.{T, leb, leb→le, nleb→lt, lit<, lit≤}
 use lib.Pow.{pow-pos, pow-add, pow-mono, shl-lt}
 use borrow.Author.Tests.{lt-leb}
 use lib.Ieee.{Float, inf, isNan, nanBits, binary32, binary64, round, toBits, ofBits, add}
+use mir.Syntax.{w32, w64}
+use mir.Val.{Fits}
 use lib.Ieee.Bits.{ofBits-toBits, is-false}
 use lib.Ieee.Exact.{HasValue}
 use lib.Ieee.Nearest.{closest}
@@ -16,7 +18,7 @@ use Rattle.floats.specs.Narrow.{convert}
 use Rattle.floats.proofs.Laws.Fields.{ofBits-value, ofBits-infinite}
 use Rattle.floats.proofs.Laws.Nearest.{closest-by-half, closest-add, closest-le, closest-ge}
 use Rattle.floats.proofs.Laws.Pattern.{round-units, round-pattern, units-over}
-use Rattle.floats.proofs.Laws.Value.{add-values}
+use Rattle.floats.proofs.Laws.Fractions.{add-alike}
 use Rattle.floats.proofs.Laws.Round.{convert-rounds, convert-inf, convert-in-format, round-number}
 use Rattle.floats.proofs.Laws.Special.{up-to-infinity}
 
@@ -102,7 +104,7 @@ module _ (x : Float) (b : ℕ) (is : ofBits binary64 b ≡ x) where
       ∙ ap (λ (p : ℕ). sign b + p) (zero-add (closest (amount b) (2 ^ 925)))
 
 -- ---- that formula by an addition: in a sum with 2 ^ -97 the last digit of an `f64` is worth as much as the smallest `f32`
-align-value : HasValue (ofBits binary64 (926 * 2 ^ 52)) false 1 (2 ^ 97)
+align-value : HasValue (ofBits binary64 (926 * 2 ^ 52)) false (2 ^ 977) (2 ^ 1074)
 unfolding ofBits
 align-value = (refl, refl)
 
@@ -112,13 +114,6 @@ size-value b h =
     let shorter : b % 2 ^ 63 % 2 ^ 52 ≡ b % 2 ^ 52 = omega arith in
     rw (twice, shorter, lt-leb (2 ^ 63) (b % 2 ^ 63) (omega arith)) at (ofBits-value binary64 (b % 2 ^ 63) (omega arith))
 
-aligned : (a p q r u c : ℕ) → q ≡ c * p → (a * p + q) * r * u ≡ (c + a) * u * (r * p)
-aligned a p q r u c e =
-    ap (λ (z : ℕ). z * r * u) (ap (λ (z : ℕ). a * p + z) e ∙ sym (add-mul a c p) ∙ ap (λ (z : ℕ). z * p) (add-comm a c)) ∙ regroup (c + a)
-  where
-    regroup : (x : ℕ) → x * p * r * u ≡ x * u * (r * p)
-    regroup x = simp (mul-assoc, mul-comm, mul-left-comm)
-
 abbrev pub sum : ℕ → Float
 sum b = add binary64 (ofBits binary64 (b % 2 ^ 63)) (ofBits binary64 (926 * 2 ^ 52))
 
@@ -126,23 +121,26 @@ below-double : (c a : ℕ) → a < c → c + a < 2 * c
 below-double c a h = omega arith
 
 module _ (b : ℕ) (h : b % 2 ^ 63 < 897 * 2 ^ 52) where
-  sum-rounds : sum b ≡ round binary64 false (amount b * 2 ^ 97 + 1 * 2 ^ 1074) (2 ^ 1074 * 2 ^ 97)
-  sum-rounds = add-values binary64 (ofBits binary64 (b % 2 ^ 63)) (ofBits binary64 (926 * 2 ^ 52)) (amount b) (2 ^ 1074) 1 (2 ^ 97) (pow-pos 1074) (pow-pos 97) (size-value b h) align-value
+  sum-rounds : sum b ≡ round binary64 false (amount b + 2 ^ 977) (2 ^ 1074)
+  sum-rounds = add-alike binary64 (ofBits binary64 (b % 2 ^ 63)) (ofBits binary64 (926 * 2 ^ 52)) false (amount b) (2 ^ 977) (2 ^ 1074) (pow-pos 1074) (size-value b h) align-value
 
   sum-pattern : toBits binary64 (sum b) ≡ 926 * 2 ^ 52 + closest (amount b) (2 ^ 925)
   sum-pattern =
       ap (toBits binary64) sum-rounds
-      ∙ round-pattern binary64 false (amount b * 2 ^ 97 + 1 * 2 ^ 1074) (2 ^ 1074 * 2 ^ 97) (2 ^ 52 * 2 ^ 925 + amount b) (2 ^ 925) 925 (pow-pos 1171) (pow-pos 925)
+      ∙ round-pattern binary64 false (amount b + 2 ^ 977) (2 ^ 1074) (2 ^ 52 * 2 ^ 925 + amount b) (2 ^ 925) 925 (pow-pos 1074) (pow-pos 925)
       (below-double (2 ^ 977) (amount b) (lt-of-lt-of-le (amount-small b h) (lit≤ tt)))
       (λ _. le-add-right (2 ^ 977) (amount b))
-      (aligned (amount b) (2 ^ 97) (2 ^ 1074) (2 ^ 1074) (2 ^ 925) (2 ^ 977) refl)
+      (swap (amount b) (2 ^ 977) (2 ^ 1074) (2 ^ 925))
       (lit< tt)
       ∙ zero-add (925 * 2 ^ 52 + closest (2 ^ 52 * 2 ^ 925 + amount b) (2 ^ 925))
       ∙ ap (λ (q : ℕ). 925 * 2 ^ 52 + q) (closest-add (2 ^ 52) (amount b) (2 ^ 925) (pow-pos 925) refl)
       ∙ sym (add-assoc (925 * 2 ^ 52) (2 ^ 52) (closest (amount b) (2 ^ 925)))
+    where
+      swap : (a c l u : ℕ) → (a + c) * l * u ≡ (c + a) * u * l
+      swap a c l u = rw (add-comm a c) (mul-right-comm (c + a) l u)
 
   pub sum-number : isNan (sum b) ≡ false
-  sum-number = ap isNan sum-rounds ∙ is-false (isNan (round binary64 false (amount b * 2 ^ 97 + 1 * 2 ^ 1074) (2 ^ 1074 * 2 ^ 97))) (round-number binary64 false (amount b * 2 ^ 97 + 1 * 2 ^ 1074) (2 ^ 1074 * 2 ^ 97))
+  sum-number = ap isNan sum-rounds ∙ is-false (isNan (round binary64 false (amount b + 2 ^ 977) (2 ^ 1074))) (round-number binary64 false (amount b + 2 ^ 977) (2 ^ 1074))
 
   pub sum-range : (926 * 2 ^ 52 ≤ toBits binary64 (sum b)) × (toBits binary64 (sum b) ≤ 926 * 2 ^ 52 + 2 ^ 23)
   sum-range = within (closest (amount b) (2 ^ 925)) (toBits binary64 (sum b)) sum-pattern (closest-le (2 ^ 23) (amount b) (2 ^ 925) (pow-pos 925) (amount-small b h))
@@ -156,21 +154,25 @@ module _ (b : ℕ) (h : b % 2 ^ 63 < 897 * 2 ^ 52) where
       rest : (q n : ℕ) → n ≡ 926 * 2 ^ 52 + q → q ≡ n - 926 * 2 ^ 52
       rest q n e = omega arith
 
--- ---- the pattern as the code puts it together: it is within 32 bits, no NaN's, and stands for what it was made for
+-- ---- a pattern as the code puts it together, of the sign's bit and p: it is within 64 and 32 bits, and no NaN's
 module _ (b p : ℕ) (B : b < 2 ^ 64) (P : p ≤ 255 * 2 ^ 23) where
-  sign-weight : sign b ≡ b / 2 ^ 63 * 2 ^ 31
-  sign-weight = go (leb (2 ^ 63) b) (leb→le (2 ^ 63) b) (nleb→lt (2 ^ 63) b)
-    where
-      go : (t : Bool) → (T t → 2 ^ 63 ≤ b) → (T (not t) → b < 2 ^ 63) → cond t (2 ^ 31) 0 ≡ b / 2 ^ 63 * 2 ^ 31
-      go true l g = omega (arith, l tt)
-      go false l g = omega (arith, g tt)
+  pub made-word : Fits w64 (b / 2 ^ 63 * 2 ^ 31 + p)
+  made-word = omega arith
 
-  pub made-fits : b / 2 ^ 63 * 2 ^ 31 + p < 2 ^ 32
-  made-fits = omega arith
+  pub made-pattern : Fits w32 (b / 2 ^ 63 * 2 ^ 31 + p)
+  made-pattern = omega arith
 
-  pub made-number : nanBits binary32 (b / 2 ^ 63 * 2 ^ 31 + p) ≡ false
-  made-number = up-to-infinity binary32 (b / 2 ^ 63 * 2 ^ 31 + p) (omega arith)
+  pub made-number : T (not (nanBits binary32 (b / 2 ^ 63 * 2 ^ 31 + p)))
+  made-number = rw (up-to-infinity binary32 (b / 2 ^ 63 * 2 ^ 31 + p) (omega arith)) tt
 
-  pub made-for : (x : Float) → toBits binary32 (convert binary32 x) ≡ sign b + p → ofBits binary32 (b / 2 ^ 63 * 2 ^ 31 + p) ≡ convert binary32 x
-  made-for x e =
-      ap (ofBits binary32) (sym (e ∙ ap (λ (w : ℕ). w + p) sign-weight)) ∙ ofBits-toBits binary32 (convert binary32 x) (convert-in-format binary32 x)
+sign-weight : (b : ℕ) → b < 2 ^ 64 → sign b ≡ b / 2 ^ 63 * 2 ^ 31
+sign-weight b B = go (leb (2 ^ 63) b) (leb→le (2 ^ 63) b) (nleb→lt (2 ^ 63) b)
+  where
+    go : (t : Bool) → (T t → 2 ^ 63 ≤ b) → (T (not t) → b < 2 ^ 63) → cond t (2 ^ 31) 0 ≡ b / 2 ^ 63 * 2 ^ 31
+    go true l g = omega (arith, l tt)
+    go false l g = omega (arith, g tt)
+
+-- it stands for the converted value whose pattern it is
+pub made-for : (x : Float) (b p : ℕ) → b < 2 ^ 64 → toBits binary32 (convert binary32 x) ≡ sign b + p → ofBits binary32 (b / 2 ^ 63 * 2 ^ 31 + p) ≡ convert binary32 x
+made-for x b p B e =
+    ap (ofBits binary32) (sym (e ∙ ap (λ (w : ℕ). w + p) (sign-weight b B))) ∙ ofBits-toBits binary32 (convert binary32 x) (convert-in-format binary32 x)

@@ -4,7 +4,7 @@
 use mathlib.Core.Path.{_≡_, refl, sym, ap, _∙_}
 use mathlib.Core.Logic.{_⊎_, inl, inr, ⊎-elim}
 use Prim.Native.Nat.{ℕ, suc, _+_, _-_, _*_, _/_, _^_, _≤_, _<_}
-use native.Mathlib.Nat.{le-trans, le-of-eq, le-antisymm, lt-of-lt-of-le, lt-of-not-le, not-le-of-lt, eq-zero-or-pos, eq-or-lt-of-le, add-assoc, mul-assoc, mul-comm, mul-right-comm, mul-pos, mul-le-mul-right, mul-lt-mul-of-pos-right, le-of-mul-le-mul-right, mul-div-cancel, suc-mul, pow-suc, pow-succ', le-refl, le-div-iff-mul-le, div-lt-iff-lt-mul}
+use native.Mathlib.Nat.{le-trans, le-of-eq, le-antisymm, le-of-suc-le-suc, lt-of-lt-of-le, lt-of-not-le, not-le-of-lt, eq-zero-or-pos, eq-or-lt-of-le, add-assoc, mul-assoc, mul-comm, mul-right-comm, mul-pos, mul-le-mul-right, mul-lt-mul-of-pos-right, le-of-mul-le-mul-right, mul-div-cancel, suc-mul, pow-suc, pow-succ', le-refl, le-div-iff-mul-le, div-lt-iff-lt-mul}
 use native.Mathlib.Decide.{decLe}
 use native.Mathlib.Omega.{arith}
 use mathlib.Core.Bool.{Bool, cond}
@@ -16,8 +16,8 @@ use lib.Ieee.Fits.{two, two-le-pos, down-pos, round-is}
 use lib.Ieee.Nearest.{closest, closest-same, div-same}
 use lib.Ieee.Scale.{overflow}
 use borrow.Author.Tests.{le-ltb}
-use Rattle.floats.proofs.Laws.Nearest.{closest-le, closest-ge}
 use Rattle.floats.proofs.Laws.Round.{pow-le-back}
+use Rattle.floats.proofs.Laws.Nearest.{closest-le, closest-ge}
 
 -- ---- how many digits a number has beyond p
 size-gt : (n i : ℕ) → 2 ^ i ≤ n → i < size n

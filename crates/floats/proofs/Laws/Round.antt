@@ -13,7 +13,7 @@ use lib.Ieee.{Float, nan, inf, fin, Format, prec, emax, low, up, down, size, odd
 use lib.Ieee.Bits.{is-true}
 use lib.Ieee.Digits.{back}
 use lib.Ieee.Exact.{HasValue, round-exact}
-use lib.Ieee.Fits.{up-pos, down-pos, and-l, and-r, round-is, round-fits, nan-fits, inf-fits}
+use lib.Ieee.Fits.{up-pos, down-pos, and-l, and-r, round-is, round-fits, nan-fits, inf-fits, neg-fits}
 use lib.Ieee.Nearest.{closest}
 use lib.Ieee.Order.{transfer, round-mono}
 use lib.Ieee.Positive.{num, den}
@@ -21,7 +21,7 @@ use lib.Ieee.Scale.{round-same, finite}
 use Rattle.floats.specs.Compare.{abs, isNegative}
 use Rattle.floats.specs.Narrow.{convert}
 use Rattle.floats.proofs.Laws.Order as Order
-use Rattle.floats.proofs.Laws.Order.{lesser, greater, number, +0, -0, nan-left, le-numbers, le-iff, fraction-order, lt-not-le, eq→same, eq→le, zeros-equal, negative-below, positive-above, inf-least, inf-greatest, neg-le, neg-finite, finite-between}
+use Rattle.floats.proofs.Laws.Order.{lesser, greater, number, +0, -0, nan-left, le-numbers, le-iff, fraction-order, lt-not-le, eq→same, eq→le, zeros-equal, negative-below, positive-above, inf-least, inf-greatest, abs-is, neg-le, neg-finite, finite-between}
 
 -- ---- the order, by any fractions that two values equal
 
@@ -182,14 +182,14 @@ round-held f s m u v q a c p r t h C e =
 flat : (u d l : ℕ) → 0 < u → u * d ≡ 1 → 0 < l → d ≤ l
 flat u d l U h L = le-trans (le-mul-of-pos-right d U) (le-trans (le-of-eq (mul-comm d u ∙ h)) L)
 
-at-least : (v u l : ℕ) → 0 < u → v ≤ l → v ≤ u * l
-at-least v u l U h = le-trans h (le-trans (le-mul-of-pos-right l U) (le-of-eq (mul-comm l u)))
+pub le-times : (v u l : ℕ) → 0 < u → v ≤ l → v ≤ u * l
+le-times v u l U h = le-trans h (le-trans (le-mul-of-pos-right l U) (le-of-eq (mul-comm l u)))
 
 pub fits→holds : (f : Format) (s : Bool) (m : ℕ) (e : ℤ) → T (fits f (fin s m e)) → Holds f m (up e) (down e)
 unfolding fits
 fits→holds f s zero e t = record {
   digits = pow-pos (prec f);
-  lowest = at-least (down e) (up e) (2 ^ low f) (up-pos e) (flat (up e) (down e) (2 ^ low f) (up-pos e) (eqb→eq (up e * down e) 1 t) (pow-pos (low f)));
+  lowest = le-times (down e) (up e) (2 ^ low f) (up-pos e) (flat (up e) (down e) (2 ^ low f) (up-pos e) (eqb→eq (up e * down e) 1 t) (pow-pos (low f)));
   under = subst (λ (z : ℕ). z < 2 ^ suc (emax f) * down e) (sym (zero-mul (up e))) (mul-pos (pow-pos (suc (emax f))) (down-pos e));
 }
 fits→holds f s (suc m) e t =
@@ -199,7 +199,7 @@ fits→holds f s (suc m) e t =
     let d : Bool = ltb (suc m * up e) (2 ^ suc (emax f) * down e) in
     record {
       digits = ltb→lt (suc m) (2 ^ prec f) (and-r a b (and-l (a && b) c (and-l (a && b && c) d t)));
-      lowest = at-least (down e) (up e) (2 ^ low f) (up-pos e) (leb→le (down e) (2 ^ low f) (and-r (a && b) c (and-l (a && b && c) d t)));
+      lowest = le-times (down e) (up e) (2 ^ low f) (up-pos e) (leb→le (down e) (2 ^ low f) (and-r (a && b) c (and-l (a && b && c) d t)));
       under = ltb→lt (suc m * up e) (2 ^ suc (emax f) * down e) (and-r (a && b && c) d t);
     }
 
@@ -258,6 +258,10 @@ round-nonneg f a c = positive-above (round f false a c) (round-number f false a 
 pub round-nonpos : (f : Format) (a c : ℕ) → T (le (round f true a c) -0)
 round-nonpos f a c = negative-below (round f true a c) (rw (round-sign f true a c) tt)
 
+-- a negative sign is below the other
+pub le-of-signs : (x y : Float) → T (number y) → isNegative x ≡ true → isNegative y ≡ false → T (le x y)
+le-of-signs x y p s t = Order.le-trans x -0 y (negative-below x (rw s tt)) (Order.le-trans -0 +0 y (eq→le -0 +0 zeros-equal) (positive-above y p (rw t tt)))
+
 -- with the other sign the result is the negative one
 odd-neg : (d : ℕ) (s : Bool) (q k l : ℕ) → odd d (not s) q k l ≡ neg (odd d s q k l)
 unfolding odd neg
@@ -277,6 +281,13 @@ round-neg f s a c =
     let k = size (a * 2 ^ low f / c) - prec f in
     round-is f (not s) a c ∙ units-neg f s (closest (a * 2 ^ low f) (c * 2 ^ k)) k ∙ ap neg (sym (round-is f s a c))
 
+pub round-abs : (f : Format) (s : Bool) (a c : ℕ) → abs (round f s a c) ≡ round f false a c
+round-abs f s a c = abs-is (round f s a c) ∙ ap (λ (z : Bool). cond z (neg (round f s a c)) (round f s a c)) (round-sign f s a c) ∙ unsigned s
+  where
+    unsigned : (s : Bool) → cond s (neg (round f s a c)) (round f s a c) ≡ round f false a c
+    unsigned true = sym (round-neg f true a c)
+    unsigned false = refl
+
 -- ---- rounding keeps the order
 
 pub round-keeps-order : (f : Format) (s : Bool) (a b : ℕ) (t : Bool) (c d : ℕ) → 0 < b → 0 < d → AtMost s a b t c d → T (le (round f s a b) (round f t c d))
@@ -284,8 +295,7 @@ round-keeps-order f false a b false c d B D h = round-mono f a b c d B D (omega 
 round-keeps-order f false a b true c d B D h =
     let z = no-size a b c d B D (omega arith) in
     rw (z .0, z .1, round-zero f false b B, round-zero f true d D) (Order.eq→ge -0 +0 zeros-equal)
-round-keeps-order f true a b false c d B D h =
-    Order.le-trans (round f true a b) -0 (round f false c d) (round-nonpos f a b) (Order.le-trans -0 +0 (round f false c d) (eq→le -0 +0 zeros-equal) (round-nonneg f c d))
+round-keeps-order f true a b false c d B D h = le-of-signs (round f true a b) (round f false c d) (round-number f false c d) (round-sign f true a b) (round-sign f false c d)
 round-keeps-order f true a b true c d B D h =
     rw (round-neg f false a b, round-neg f false c d) (neg-le (round f false c d) (round f false a b) (round-mono f c d a b D B (omega arith)))
 
@@ -378,3 +388,11 @@ convert-at-most f x v p h = rw (convert-fits f v p) at (convert-mono f x v h)
 
 pub convert-at-least : (f : Format) (x v : Float) → T (fits f v) → T (le v x) → T (le v (convert f x))
 convert-at-least f x v p h = rw (convert-fits f v p) at (convert-mono f v x h)
+
+pub convert-size : (f : Format) (x v : Float) → T (fits f v) → T (le (abs x) v) → T (le (abs (convert f x)) v)
+convert-size f x v p h =
+    let r = Order.abs-le x v .0 h in
+    Order.abs-le (convert f x) v .1 (convert-at-least f x (neg v) (neg-fits f v p) (r .0), convert-at-most f x v p (r .1))
+
+pub convert-finite : (f : Format) (x v : Float) → T (fits f v) → T (finite v) → T (le (abs x) v) → T (finite (convert f x))
+convert-finite f x v p q h = Order.finite-of-abs (convert f x) v q (convert-size f x v p h)

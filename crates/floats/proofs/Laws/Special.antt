@@ -1,13 +1,12 @@
 -- How the code tells a NaN, an infinity and a zero: by comparing x with itself, by x - x, and by the pattern. Assumes nothing.
 use mathlib.Core.Path.{_≡_, refl, sym, _∙_}
 use Prim.Native.Nat.{ℕ, _*_, _%_, _≤_, _<_}
-use native.Mathlib.Nat.{zero-mul, sub-self, zero-lt-suc, mul-pos, le-refl}
-use mathlib.Core.Bool.{Bool, true, false, not, false≢true}
+use mathlib.Core.Bool.{true, false, false≢true}
 use lib.IntN.{pos}
-use lib.Ieee.{Float, nan, inf, fin, Format, binary32, binary64, up, down, hid, ones, top, isNan, nanBits, ofBits, round, sum, sub, div, eq, ne}
+use lib.Ieee.{Float, nan, inf, fin, Format, binary32, up, down, hid, ones, top, isNan, nanBits, ofBits, sub, div, eq, ne}
 use lib.Ieee.Bits.{nanBits-is, nanBits-above}
-use lib.Ieee.Fits.{down-pos}
-use lib.Ieee.Scale.{finite, round-same}
+use lib.Ieee.Scale.{finite}
+use Rattle.floats.proofs.Laws.Sum.{sub-self}
 use borrow.Author.Tests.{lt-ltb, le-ltb, eq-eqb}
 
 -- ---- a NaN
@@ -44,29 +43,10 @@ above-infinity f b h = is-nan (ofBits f b) (sym (nanBits-is f b) ∙ nanBits-abo
 pub up-to-infinity : (f : Format) (b : ℕ) → b % top f ≤ ones f * hid f → nanBits f b ≡ false
 up-to-infinity f b h = nanBits-above f b ∙ le-ltb (ones f * hid f) (b % top f) h
 
--- ---- a zero
-round-no-part : (f : Format) (s : Bool) → round f s 0 1 ≡ fin s 0 (pos 0)
-unfolding round
-round-no-part binary32 s = refl
-round-no-part binary64 s = refl
-
-pub round-zero : (f : Format) (s : Bool) (den : ℕ) → 0 < den → round f s 0 den ≡ fin s 0 (pos 0)
-round-zero f s den h = round-same f s 0 den 0 1 h (zero-lt-suc 0) (sym (zero-mul den)) ∙ round-no-part f s
-
-pub equals-zero : (s : Bool) → eq (fin s 0 (pos 0)) (fin false 0 (pos 0)) ≡ true
-unfolding eq
-equals-zero true = refl
-equals-zero false = refl
-
 -- ---- x - x is a zero, or a NaN where x is a NaN or an infinity
-no-sum : (f : Format) (s : Bool) (a c : ℕ) → 0 < c → sum f s a (not s) a c ≡ fin false 0 (pos 0)
-unfolding sum
-no-sum f true a c h = simp (le-ltb a a (le-refl a), sub-self, round-zero f false c)
-no-sum f false a c h = simp (le-ltb a a (le-refl a), sub-self, round-zero f false c)
-
 pub sub-itself : (f : Format) (x : Float) → eq (sub f x x) (fin false 0 (pos 0)) ≡ finite x
 unfolding sub eq
 sub-itself f nan = refl
 sub-itself f (inf true) = refl
 sub-itself f (inf false) = refl
-sub-itself f (fin s m e) = rw (no-sum f s (m * up e * down e) (down e * down e) (mul-pos (down-pos e) (down-pos e))) (equals-zero false)
+sub-itself f (fin s m e) = rw (sub-self f (fin s m e) tt)

@@ -1,0 +1,30 @@
+-- `floats::sqrt::guess` meets its contract: its result has at most 32 digits, since it is a remainder by 2 ^ 32. Assumes nothing.
+use Prim.Native.Nat.{ℕ, _%_, _^_, _<_}
+use native.Mathlib.Nat.{le-of-lt, lt-of-lt-of-le}
+use native.Mathlib.Omega.{arith}
+use mathlib.Core.Path.{_≡_}
+use mathlib.Core.Bool.{Bool, true, false, not}
+use borrow.Author.Needs.{needs}
+use lib.Dec.{T, le→leb, lit≤}
+use lib.Ieee.{inFloat}
+use Rattle.floats.proofs.Laws.Sqrt.Special.{self-equal-not-nan}
+use Rattle.floats.proofs.sqrt.guess.Statement.{statement}
+use Rattle.floats.proofs.sqrt.guess.Tie as tie
+use Rattle.floats.proofs.sqrt.guess.Reads as reads
+use Rattle.floats.proofs.sqrt.guess.Lts as lts
+
+int-to-float-z : tie.Need-int-to-float-z
+unfolding inFloat
+int-to-float-z c = le→leb (c .before .args .n % 2 ^ 52) (2 ^ 53) (omega arith)
+
+returns : tie.Need-returns
+returns c = search needs
+
+float-to-bits-result : tie.Need-float-to-bits-result
+float-to-bits-result c = self-equal-not-nan _ (c .if1 .left)
+
+returns-2 : tie.Need-returns-2
+returns-2 c = search needs
+
+pub guess-spec : {M : Type 1} → statement M
+guess-spec = tie.close (tie.spec int-to-float-z returns float-to-bits-result returns-2)

@@ -1,0 +1,3 @@
+//! Stub. The parent of the wind estimator.
+
+pub mod wind;

@@ -1,0 +1,1 @@
+//! Stub. Guidance uses nothing of this module.

@@ -1,0 +1,3 @@
+//! Stub. The name is re-exported; guidance does not use it.
+
+pub struct View;

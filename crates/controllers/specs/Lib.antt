@@ -1,0 +1,4 @@
+-- The definitions that the contracts cite. Assumes nothing.
+pub mod Checks
+pub mod Derivative
+pub mod RateDivider

@@ -1,0 +1,8 @@
+-- Laws of the definitions of specs/.
+pub mod Cap
+pub mod Closing
+pub mod Largest
+pub mod Limits
+pub mod Thrust
+pub mod Worked
+pub mod Wrap

@@ -1,0 +1,15 @@
+-- `math::rem_euclid` meets its contract. Assumes nothing.
+use Rattle.math.specs.Math.{rem-euclid}
+use Rattle.math.proofs.rem_euclid.Statement.{statement}
+use Rattle.math.proofs.rem_euclid.Tie as tie
+
+returns : tie.Need-returns
+unfolding rem-euclid
+returns c = rw (c .if1 .taken)
+
+returns-2 : tie.Need-returns-2
+unfolding rem-euclid
+returns-2 c = rw (c .if1 .left)
+
+pub rem-euclid-spec : {M : Type 1} → statement M
+rem-euclid-spec = tie.close (tie.spec returns returns-2)

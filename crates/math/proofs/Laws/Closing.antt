@@ -11,32 +11,18 @@ use lib.Ieee.Positive.{num, den, above}
 use lib.Ieee.Scale.{finite}
 use Rattle.floats.specs.Compare.{isNegative}
 use Rattle.floats.specs.Ops.{_⊖_, _⊗_, _⊘_}
-use Rattle.floats.specs.Sqrt.{sqrt, scale}
-use Rattle.floats.proofs.Laws.Order.{+0, number, nan-right, le-numbers, lt-numbers, lt→le, lt-by, lt-excludes, lt-le-trans, le-lt-trans, positive-above}
+use Rattle.floats.specs.Sqrt.{sqrt}
+use Rattle.floats.proofs.Laws.Order.{+0, number, le-numbers, lt-numbers, lt→le, lt-by, lt-excludes, lt-le-trans, le-lt-trans, positive-above}
 use Rattle.floats.proofs.Laws.Product.{void-product, void-quotient, mul-nan, div-nan, mul-sign, div-sign, mul-number, mul-nonneg, mul-mono, mul-comm, mul-one, div-one, div-anti, div-number, square-number}
-use Rattle.floats.proofs.Laws.Round.{round-nonneg}
 use Rattle.floats.proofs.Laws.Sum.{sub-pos}
-use Rattle.floats.proofs.Laws.Sqrt.Special.{Against-zero, not-a-number, equals-zero, below-zero, above-zero, infinite, against-zero, sqrt-zero, sqrt-positive, sqrt-infinity, above-of-lt}
-use Rattle.floats.proofs.Laws.Sqrt.Bounds.{whole, left, rootOf-is}
+use Rattle.floats.proofs.Laws.Sqrt.{sqrt-nonneg}
+use Rattle.floats.proofs.Laws.Sqrt.Special.{above-of-lt}
 use Rattle.math.specs.Math.{zero, one, two, braked-speed, shaped-closing-speed}
 use Rattle.math.proofs.Laws.Limits.{zero-nonneg}
 
 not-or : (a b : Bool) → T (not (a || b)) → T (not a) × T (not b)
 not-or true b h = absurd h
 not-or false b h = (tt, h)
-
--- ---- a root is not negative
-
-sqrt-nonneg : (f : Format) (x : Float) → T (le +0 x) → T (le +0 (sqrt f x))
-unfolding le
-sqrt-nonneg f x h = go (against-zero x)
-  where
-    go : Against-zero x → T (le +0 (sqrt f x))
-    go (not-a-number e) = absurd (subst T (nan-right +0 .2) (subst (λ (z : Float). T (le +0 z)) e h))
-    go (equals-zero e) = rw (sqrt-zero f x e) h
-    go (below-zero l) = absurd (lt-excludes x +0 l h)
-    go (above-zero p) = rw (sqrt-positive f x p, rootOf-is f (num x) (den x)) (round-nonneg f (2 * whole f (num x) (den x) + left f (num x) (den x)) (2 * scale f))
-    go (infinite e) = rw (e, sqrt-infinity f) tt
 
 -- ---- a product of two values above zero is a number and not negative, an infinity included
 

@@ -2,16 +2,15 @@
 use mathlib.Core.Path.{_≡_, sym, ap, _∙_, subst}
 use mathlib.Core.Bool.{false}
 use Prim.Native.Nat.{ℕ, suc, _+_, _-_, _*_, _/_, _%_, _^_, _≤_, _<_}
-use native.Mathlib.Nat.{le-trans, le-of-eq, lt-of-lt-of-le, lt-of-le-of-lt, le-of-lt, mul-le-mul, mul-le-mul-left, mul-assoc, mul-comm, mul-left-comm, mul-right-comm, mul-div-cancel, mul-mod-left, mod-le, pow-suc, eq-of-mul-eq-mul-right}
+use native.Mathlib.Nat.{le-trans, le-of-eq, lt-of-lt-of-le, lt-of-le-of-lt, mul-le-mul, mul-le-mul-left, mul-assoc, mul-comm, mul-left-comm, mul-right-comm, mul-div-cancel, mul-mod-left, pow-suc, eq-of-mul-eq-mul-right}
 use native.Mathlib.Omega.{arith}
-use lib.Dec.{T, lit≤, lit<}
+use lib.Dec.{T, lit≤}
 use lib.Pow.{pow-add, pow-pos, pow-mono, shl-lt}
 use lib.Ieee.{Float, binary32, binary64, fits, toBits, units}
 use lib.Ieee.Exact.{HasValue, units-val}
 use lib.Ieee.Positive.{num, den, den-pos, positive}
-use Rattle.floats.specs.Sqrt.{wholeRoot, rootOf, sqrt}
+use Rattle.floats.specs.Sqrt.{wholeRoot, sqrt}
 use Rattle.floats.proofs.Laws.Sqrt.WholeRoot.{lt-of-squares, le-of-squares, wholeRoot-is}
-use Rattle.floats.proofs.Laws.Sqrt.Bounds.{square}
 use Rattle.floats.proofs.Laws.Sqrt.Values.{NormalIn, normal-in, toBits-normal}
 use Rattle.floats.proofs.Laws.Sqrt.Digits.{root-of-shifted}
 use Rattle.floats.proofs.Laws.Sqrt.Special.{sqrt-positive}
@@ -35,11 +34,11 @@ rescaled num den m a k l s t d h e =
 
 -- ---- the numbers that the code names, from the pattern b of x as an f64
 abbrev pub exponent : ℕ → ℕ
-exponent b = b / 4503599627370496
+exponent b = b / 2 ^ 52
 
 -- the f64's 53 digits, cut to 49 or 50
 abbrev pub radicand : ℕ → ℕ
-radicand b = (b % 4503599627370496 + 4503599627370496) / 2 ^ (3 + exponent b % 2)
+radicand b = (b % 2 ^ 52 + 2 ^ 52) / 2 ^ (3 + exponent b % 2)
 
 abbrev pub root : ℕ → ℕ
 root b = wholeRoot (radicand b)
@@ -47,11 +46,11 @@ root b = wholeRoot (radicand b)
 abbrev pub field : ℕ → ℕ
 field b = (exponent b + 1) / 2 - 386
 
-module _ (b M K : ℕ) (full : 2 ^ 23 ≤ M) (few : M < 2 ^ 24) (bits : b ≡ K * 4503599627370496 + M * 536870912) where
+module _ (b M K : ℕ) (full : 2 ^ 23 ≤ M) (few : M < 2 ^ 24) (bits : b ≡ K * 2 ^ 52 + M * 2 ^ 29) where
   exponent-is : exponent b ≡ K + 1
   exponent-is = omega arith
 
-  digits-are : b % 4503599627370496 + 4503599627370496 ≡ M * 536870912
+  digits-are : b % 2 ^ 52 + 2 ^ 52 ≡ M * 2 ^ 29
   digits-are = omega arith
 
   radicand-is : radicand b ≡ M * 2 ^ suc (25 - exponent b % 2)
@@ -75,7 +74,7 @@ module _ (b M K : ℕ) (full : 2 ^ 23 ≤ M) (few : M < 2 ^ 24) (bits : b ≡ K 
       least : (e : ℕ) → 25 ≤ suc (25 - e % 2)
       least e = omega arith
 
-  pub root-high : root b < 33554431
+  pub root-high : root b < 2 ^ 25 - 1
   root-high =
       lt-of-squares (lt-of-le-of-lt (wholeRoot-is (radicand b) .0)
       (lt-of-le-of-lt (le-trans (le-of-eq radicand-is) (mul-le-mul-left M (pow-mono (most (exponent b))))) (below M few)))
@@ -83,7 +82,7 @@ module _ (b M K : ℕ) (full : 2 ^ 23 ≤ M) (few : M < 2 ^ 24) (bits : b ≡ K 
       most : (e : ℕ) → suc (25 - e % 2) ≤ 26
       most e = omega arith
 
-      below : (m : ℕ) → m < 2 ^ 24 → m * 2 ^ 26 < 33554431 * 33554431
+      below : (m : ℕ) → m < 2 ^ 24 → m * 2 ^ 26 < (2 ^ 25 - 1) * (2 ^ 25 - 1)
       below m h = omega arith
 
   -- the root in units of the smallest f32
@@ -108,12 +107,12 @@ module _ (x : Float) (fit : T (fits binary32 x)) (p : T (positive x)) where
   pub field-in : (386 ≤ (exponent (toBits binary64 x) + 1) / 2) × (field (toBits binary64 x) < 190)
   field-in = let u = normal in omega (arith, exponent-is (toBits binary64 x) (u .digits) (u .place) (u .full) (u .few) (u .bits))
 
-  pub root-in : (2 ^ 24 ≤ root (toBits binary64 x)) × (root (toBits binary64 x) < 33554431)
+  pub root-in : (2 ^ 24 ≤ root (toBits binary64 x)) × (root (toBits binary64 x) < 2 ^ 25 - 1)
   root-in =
       let u = normal in
       (root-low (toBits binary64 x) (u .digits) (u .place) (u .full) (u .few) (u .bits), root-high (toBits binary64 x) (u .digits) (u .place) (u .full) (u .few) (u .bits))
 
-  pub sqrt-pattern : toBits binary32 (sqrt binary32 x) ≡ field (toBits binary64 x) * 8388608 + (root (toBits binary64 x) + 1) / 2
+  pub sqrt-pattern : toBits binary32 (sqrt binary32 x) ≡ field (toBits binary64 x) * 2 ^ 23 + (root (toBits binary64 x) + 1) / 2
   sqrt-pattern =
       let u = normal in
       let b = toBits binary64 x in

@@ -1,30 +1,27 @@
 -- `round` by the leading digits of its fraction: with one digit more than the format keeps, that digit alone decides, except at a tie.
 -- So two fractions that agree in their whole part at a fine enough scale, and of which neither is that whole part, round alike. Assumes nothing.
-use mathlib.Core.Path.{_≡_, sym, ap, ap₂, _∙_, subst}
+use mathlib.Core.Path.{_≡_, refl, sym, ap, ap₂, _∙_, subst, subst⁻¹}
 use mathlib.Core.Bool.{Bool, not}
 use Prim.Native.Nat.{ℕ, suc, _+_, _-_, _*_, _/_, _%_, _^_, _≤_, _<_, compare, Ordering, Ordering·lt, Ordering·eq, Ordering·gt}
-use native.Mathlib.Nat.{le-trans, le-of-eq, le-antisymm, lt-of-lt-of-le, lt-of-le-of-lt, lt-of-mul-lt-mul-right, mul-comm, mul-assoc, mul-left-comm, mul-right-comm, mul-pos, add-mul, mul-one, one-mul, div-add-mod', div-mul-le-self, lt-div-mul-add, div-div-eq-div-mul, mul-div-mul-right, mod-lt, mul-div-cancel, div-eq-of-lt-le, le-of-lt, lt-irrefl, pow-succ'}
+use native.Mathlib.Nat.{lt-of-le-of-lt, lt-of-mul-lt-mul-right, mul-comm, mul-assoc, mul-left-comm, mul-pos, add-mul, one-mul, div-add-mod', div-mul-le-self, lt-div-mul-add, div-div-eq-div-mul, mul-div-mul-right, mod-lt, mul-div-cancel, div-eq-of-lt-le, le-of-lt, lt-irrefl, pow-succ'}
 use native.Mathlib.Omega.{arith}
-use lib.Dec.{T, isLe, isEq, eqb, leb→le, nleb→lt, eqb→eq, eqb-refl}
+use lib.Dec.{T, isLe, isEq, leb→le, nleb→lt, eqb→eq}
 use lib.Arith.{lt-of-le-ne}
 use lib.Pow.{pow-add, pow-pos}
-use lib.Ieee.{Float, Format, prec, low, size, nearest, units, round}
-use lib.Ieee.Fits.{round-is, two}
+use lib.Ieee.{Format, prec, low, size, nearest, units, round}
+use lib.Ieee.Fits.{eq→eqb, round-is, two}
 use lib.Ieee.Nearest.{closest}
 
--- ---- what `compare` says
-abbrev Compared : Ordering → ℕ → ℕ → Type 0
-Compared Ordering·lt a b = a < b
-Compared Ordering·eq a b = a ≡ b
-Compared Ordering·gt a b = b < a
+-- ---- the order that `compare` found
+abbrev Ordered : Ordering → ℕ → ℕ → Type 0
+Ordered Ordering·lt x y = x < y
+Ordered Ordering·eq x y = x ≡ y
+Ordered Ordering·gt x y = y < x
 
-compared : (a b : ℕ) → Compared (compare a b) a b
-compared a b = go (compare a b) (leb→le a b) (nleb→lt a b) (eqb→eq a b) (λ (e : a ≡ b). subst (λ (x : ℕ). T (eqb a x)) e (eqb-refl a))
-  where
-    go : (o : Ordering) → (T (isLe o) → a ≤ b) → (T (not (isLe o)) → b < a) → (T (isEq o) → a ≡ b) → (a ≡ b → T (isEq o)) → Compared o a b
-    go Ordering·lt h k e n = lt-of-le-ne (h tt) n
-    go Ordering·eq h k e n = e tt
-    go Ordering·gt h k e n = k tt
+ordered : (x y : ℕ) (o : Ordering) → compare x y ≡ o → Ordered o x y
+ordered x y Ordering·lt e = lt-of-le-ne (leb→le x y (subst⁻¹ (λ (o : Ordering). T (isLe o)) e tt)) (λ q. subst (λ (o : Ordering). T (isEq o)) e (eq→eqb q))
+ordered x y Ordering·eq e = eqb→eq x y (subst⁻¹ (λ (o : Ordering). T (isEq o)) e tt)
+ordered x y Ordering·gt e = nleb→lt x y (subst⁻¹ (λ (o : Ordering). T (not (isLe o))) e tt)
 
 -- ---- h is the whole part of 2 a / b; it is odd and nothing is left over exactly at a tie
 same-whole : (h g b n : ℕ) → h * b ≤ n → n < (h + 1) * b → g * b ≤ n → n < (g + 1) * b → h ≡ g
@@ -36,7 +33,7 @@ same-whole h g b n h-le h-lt g-le g-lt =
 doubles : (w b : ℕ) → (2 * w * b ≡ 2 * (w * b)) × ((2 * w + 1) * b ≡ 2 * (w * b) + b) × ((2 * w + 1 + 1) * b ≡ 2 * (w * b) + b + b)
 doubles w b = (mul-assoc 2 w b, simp (add-mul, one-mul, mul-assoc), simp (add-mul, one-mul, mul-assoc))
 
-nearest-by-halves : (w t b a h : ℕ) (o : Ordering) → Compared o (t * 2) b → t < b → w * b + t ≡ a → h * b ≤ a * 2 → a * 2 < (h + 1) * b → (h % 2 ≡ 1 → h * b ≡ a * 2 → ⊥)
+nearest-by-halves : (w t b a h : ℕ) (o : Ordering) → Ordered o (t * 2) b → t < b → w * b + t ≡ a → h * b ≤ a * 2 → a * 2 < (h + 1) * b → (h % 2 ≡ 1 → h * b ≡ a * 2 → ⊥)
     → nearest w o ≡ (h + 1) / 2
 nearest-by-halves w t b a h Ordering·lt c T parts at-least below no-tie =
     let d = doubles w b in
@@ -54,7 +51,7 @@ nearest-by-halves w t b a h Ordering·gt c T parts at-least below no-tie =
 
 closest-by-halves : (a b h : ℕ) → 0 < b → a * 2 / b ≡ h → (h % 2 ≡ 1 → h * b ≡ a * 2 → ⊥) → closest a b ≡ (h + 1) / 2
 closest-by-halves a b h B is no-tie =
-    nearest-by-halves (a / b) (a % b) b a h (compare (a % b * 2) b) (compared (a % b * 2) b) (mod-lt a B) (div-add-mod' a b)
+    nearest-by-halves (a / b) (a % b) b a h (compare (a % b * 2) b) (ordered (a % b * 2) b (compare (a % b * 2) b) refl) (mod-lt a B) (div-add-mod' a b)
     (subst (λ (x : ℕ). x * b ≤ a * 2) is (div-mul-le-self (a * 2) b))
     (subst (λ (x : ℕ). a * 2 < (x + 1) * b) is (rw (add-mul, one-mul) (lt-div-mul-add B)))
     no-tie
@@ -114,7 +111,7 @@ module _ (f : Format) (s : Bool) (a b r : ℕ) (B : 0 < b) (is : a * 2 ^ (low f 
       (λ o e. no-tie o (sym (unit-at-scale h k) ∙ ap (λ (x : ℕ). x * 2 ^ (prec f - 1)) e ∙ at-scale)))
 
 -- a fraction strictly between r and r + 1 at that scale is at no tie
-pub round-between : (f : Format) (s : Bool) (a b r : ℕ) → 0 < b → r * b < a * 2 ^ (low f + prec f) → a * 2 ^ (low f + prec f) < (r + 1) * b
+round-between : (f : Format) (s : Bool) (a b r : ℕ) → 0 < b → r * b < a * 2 ^ (low f + prec f) → a * 2 ^ (low f + prec f) < (r + 1) * b
     → round f s a b ≡ units f s ((halves f r + 1) / 2) (dropped f r)
 round-between f s a b r B above below =
     let A = a * 2 ^ (low f + prec f) in

@@ -1,20 +1,20 @@
 -- The values that a format holds: each is a number of at most `prec` digits, shifted, in units of the format's smallest value; it is told by its sign and its size; `round` leaves it as it is;
 -- and its bit pattern is read off its digits. Assumes nothing.
 use mathlib.Core.Path.{_≡_, refl, sym, ap, _∙_, subst}
-use mathlib.Core.Bool.{Bool, true, false, _&&_, cond}
+use mathlib.Core.Bool.{Bool, false, _&&_, cond}
 use Prim.Native.Nat.{ℕ, zero, suc, _+_, _-_, _*_, _/_, _%_, _^_, _≤_, _<_}
-use native.Mathlib.Nat.{le-trans, le-of-eq, le-of-suc-le-suc, le-antisymm, lt-of-lt-of-le, lt-of-le-of-lt, lt-of-not-le, lt-irrefl, not-le-of-lt, zero-add, zero-mul, mul-one, one-mul, mul-comm, mul-assoc, mul-left-comm, mul-right-comm, mul-pos, mul-le-mul-right, mul-lt-mul-of-pos-right, lt-of-mul-lt-mul-right, mul-div-cancel, add-sub-cancel-left}
+use native.Mathlib.Nat.{le-trans, le-of-eq, le-of-suc-le-suc, lt-suc-self, le-antisymm, lt-of-lt-of-le, lt-of-le-of-lt, lt-of-not-le, not-le-of-lt, zero-add, zero-mul, mul-one, mul-comm, mul-assoc, mul-left-comm, mul-right-comm, mul-le-mul-right, mul-lt-mul-of-pos-right, lt-of-mul-lt-mul-right, mul-div-cancel, add-sub-cancel-left}
 use native.Mathlib.Omega.{arith}
 use lib.IntN.{ℤ, pos, negsuc}
 use lib.Dec.{T, leb, ltb, eqb, leb→le, ltb→lt}
 use lib.Pow.{pow-add, pow-pos, pow-mono, pow-lt, shl-lt}
-use lib.Ieee.{Float, nan, inf, fin, Format, prec, emax, low, up, down, size, round, fits, hid, top, ofBits, toBits}
+use lib.Ieee.{Float, fin, Format, prec, emax, low, up, down, size, round, fits, le, hid, top, ofBits, toBits}
 use lib.Ieee.Digits.{size-lt, size-le, size-reaches, back}
 use lib.Ieee.Fits.{two, and-l, and-r, down-pos, round-fits}
 use lib.Ieee.Exact.{HasValue, round-exact}
 use lib.Ieee.Nearest.{div-same}
 use lib.Ieee.Scale.{finite, overflow}
-use lib.Ieee.Positive.{num, den, den-pos, positive, positive-finite, first-pos, value-pos}
+use lib.Ieee.Positive.{num, den, den-pos, positive, positive-finite, own-value, le→cross, first-pos, value-pos}
 use lib.Ieee.Bits.{ofBits-toBits}
 
 -- ---- in units of the smallest value
@@ -27,14 +27,14 @@ pub record InUnits (f : Format) (x : Float) : Type 0 where
   pub equals : num x * 2 ^ low f ≡ digits * 2 ^ place * den x
   pub inside : digits * 2 ^ place < overflow f
 
-pow-le-back : (a l : ℕ) → 2 ^ a ≤ 2 ^ l → a ≤ l
-pow-le-back a l h = le-of-suc-le-suc (lt-of-not-le (λ (g : suc l ≤ a). lt-irrefl (2 ^ l) (lt-of-lt-of-le (pow-lt g) h)))
+pow-lt-back : (a b : ℕ) → 2 ^ a < 2 ^ b → a < b
+pow-lt-back a b h = lt-of-not-le (λ (g : b ≤ a). not-le-of-lt h (pow-mono g))
 
 -- the exponent e counted from the smallest value 2 ^ -l
 placed : (l m : ℕ) (e : ℤ) → down e ≤ 2 ^ l → (j : ℕ) × (m * up e * 2 ^ l ≡ m * 2 ^ j * down e)
 placed l m (pos a) h = (a + l, mul-assoc m (2 ^ a) (2 ^ l) ∙ ap (λ (x : ℕ). m * x) (sym (pow-add 2 a l)) ∙ sym (mul-one (m * 2 ^ (a + l))))
 placed l m (negsuc a) h =
-    let le : suc a ≤ l = pow-le-back (suc a) l h in (
+    let le : suc a ≤ l = le-of-suc-le-suc (pow-lt-back (suc a) (suc l) (lt-of-le-of-lt h (pow-lt (lt-suc-self l)))) in (
       l - suc a,
       ap (λ (x : ℕ). x * 2 ^ l) (mul-one m)
           ∙ ap (λ (x : ℕ). m * x) (ap (λ (x : ℕ). 2 ^ x) (sym (back l (suc a) le)) ∙ pow-add 2 (l - suc a) (suc a))
@@ -74,8 +74,6 @@ pattern f s n = cond s (top f) 0 + (size n - prec f) * hid f + n / 2 ^ (size n -
 
 toBits-of-value : (f : Format) (x : Float) (s : Bool) (a c : ℕ) → 0 < c → HasValue x s a c → toBits f x ≡ pattern f s (a * 2 ^ low f / c)
 unfolding toBits
-toBits-of-value f nan s a c C v = absurd v
-toBits-of-value f (inf t) s a c C v = absurd v
 toBits-of-value f (fin t m e) s a c C v =
     ap (λ (x : Bool). pattern f x (m * up e * 2 ^ low f / down e)) (v .0)
     ∙ ap (pattern f s) (div-same (m * up e * 2 ^ low f) (down e) (a * 2 ^ low f) c (down-pos e) C
@@ -151,33 +149,15 @@ pub record NormalIn (f g : Format) (x : Float) : Type 0 where
   pub high-place : place + prec g ≤ suc (emax f) + low g
 
 pub value-of : (x : Float) (a c : ℕ) → T (positive x) → num x * c ≡ a * den x → HasValue x false a c
-value-of nan a c p e = absurd p
-value-of (inf s) a c p e = absurd p
-value-of (fin true m d) a c p e = absurd p
 value-of (fin false m d) a c p e = (refl, e)
 
-pow-lt-back : (a b : ℕ) → 2 ^ a < 2 ^ b → a < b
-pow-lt-back a b h = lt-of-not-le (λ (g : b ≤ a). not-le-of-lt h (pow-mono g))
+-- x has m * 2 ^ j units of a format with p digits and the lowest place l, and m takes i digits more: the places in a wider format, as numbers
+places : (i j p q l k : ℕ) → i < p → p ≤ q → l + q ≤ suc k
+    → (i + (q - p) + (j + (k - l) - (i + (q - p))) ≡ j + (k - l)) × (k < j + (k - l) - (i + (q - p)) + l + q) × (q - 1 ≡ p - 1 + (q - p)) × (p + (q - p) ≡ q) × (l + (k - l) ≡ k)
+places i j p q l k I wider deeper = omega arith
 
--- the places, as numbers: x has m * 2 ^ j units of f, and m takes i digits more
-module _ (i j p q l k : ℕ) (I : i < p) (wider : p ≤ q) (deeper : l + q ≤ suc k) where
-  shifts : i + (q - p) + (j + (k - l) - (i + (q - p))) ≡ j + (k - l)
-  shifts = omega arith
-
-  deep-enough : k < j + (k - l) - (i + (q - p)) + l + q
-  deep-enough = omega arith
-
-  longer : q - 1 ≡ p - 1 + (q - p)
-  longer = omega arith
-
-  wide : p + (q - p) ≡ q
-  wide = omega arith
-
-  down-to : l + (k - l) ≡ k
-  down-to = omega arith
-
-  top-place : (e z : ℕ) → q - 1 + z < l + suc e + (k - l) → z + q ≤ suc e + k
-  top-place e z h = omega arith
+top-place : (p q l k e z : ℕ) → p ≤ q → l + q ≤ suc k → q - 1 + z < l + suc e + (k - l) → z + q ≤ suc e + k
+top-place p q l k e z wider deeper h = omega arith
 
 pub normal-in : (f g : Format) (x : Float) → T (fits f x) → T (positive x) → prec f ≤ prec g → low f + prec g ≤ suc (low g) → NormalIn f g x
 normal-in f g x fit p wider deeper =
@@ -191,19 +171,20 @@ normal-in f g x fit p wider deeper =
     go m j i equals inside I full few =
         let P = prec g - prec f in
         let k = j + (low g - low f) - (i + P) in
+        let n = places i j (prec f) (prec g) (low f) (low g) I wider deeper in
         let moved : m * 2 ^ i * 2 ^ P * 2 ^ k ≡ m * 2 ^ j * 2 ^ (low g - low f) =
         mul-assoc (m * 2 ^ i) (2 ^ P) (2 ^ k)
         ∙ mul-assoc m (2 ^ i) (2 ^ P * 2 ^ k)
-        ∙ ap (λ (y : ℕ). m * y) (sym (mul-assoc (2 ^ i) (2 ^ P) (2 ^ k)) ∙ ap (λ (y : ℕ). y * 2 ^ k) (sym (pow-add 2 i P)) ∙ sym (pow-add 2 (i + P) k) ∙ ap (λ (y : ℕ). 2 ^ y) (shifts i j (prec f) (prec g) (low f) (low g) I wider deeper) ∙ pow-add 2 j (low g - low f))
+        ∙ ap (λ (y : ℕ). m * y) (sym (mul-assoc (2 ^ i) (2 ^ P) (2 ^ k)) ∙ ap (λ (y : ℕ). y * 2 ^ k) (sym (pow-add 2 i P)) ∙ sym (pow-add 2 (i + P) k) ∙ ap (λ (y : ℕ). 2 ^ y) (n .0) ∙ pow-add 2 j (low g - low f))
         ∙ sym (mul-assoc m (2 ^ j) (2 ^ (low g - low f))) in
         let eq : num x * 2 ^ low g ≡ m * 2 ^ i * 2 ^ P * 2 ^ k * den x =
-        ap (λ (y : ℕ). num x * y) (ap (λ (y : ℕ). 2 ^ y) (sym (down-to i j (prec f) (prec g) (low f) (low g) I wider deeper)) ∙ pow-add 2 (low f) (low g - low f))
+        ap (λ (y : ℕ). num x * y) (ap (λ (y : ℕ). 2 ^ y) (sym (n .4)) ∙ pow-add 2 (low f) (low g - low f))
         ∙ sym (mul-assoc (num x) (2 ^ low f) (2 ^ (low g - low f)))
         ∙ ap (λ (y : ℕ). y * 2 ^ (low g - low f)) equals
         ∙ mul-right-comm (m * 2 ^ j) (den x) (2 ^ (low g - low f))
         ∙ ap (λ (y : ℕ). y * den x) (sym moved) in
         let at-least : hid g ≤ m * 2 ^ i * 2 ^ P =
-        le-trans (le-of-eq (ap (λ (y : ℕ). 2 ^ y) (longer i j (prec f) (prec g) (low f) (low g) I wider deeper) ∙ pow-add 2 (prec f - 1) P)) (mul-le-mul-right (2 ^ P) full) in
+        le-trans (le-of-eq (ap (λ (y : ℕ). 2 ^ y) (n .2) ∙ pow-add 2 (prec f - 1) P)) (mul-le-mul-right (2 ^ P) full) in
         record {
           digits = m * 2 ^ i;
           place = k;
@@ -211,11 +192,22 @@ normal-in f g x fit p wider deeper =
           few = few;
           equals = eq;
           bits = toBits-normal g x (m * 2 ^ i * 2 ^ P) k at-least
-              (subst (λ (y : ℕ). m * 2 ^ i * 2 ^ P < 2 ^ y) (wide i j (prec f) (prec g) (low f) (low g) I wider deeper) (shl-lt (prec f) P few))
+              (subst (λ (y : ℕ). m * 2 ^ i * 2 ^ P < 2 ^ y) (n .3) (shl-lt (prec f) P few))
               (value-of x (m * 2 ^ i * 2 ^ P * 2 ^ k) (2 ^ low g) p eq);
-          low-place = deep-enough i j (prec f) (prec g) (low f) (low g) I wider deeper;
-          high-place = top-place i j (prec f) (prec g) (low f) (low g) I wider deeper (emax f) k
+          low-place = n .1;
+          high-place = top-place (prec f) (prec g) (low f) (low g) (emax f) k wider deeper
               (pow-lt-back (prec g - 1 + k) (low f + suc (emax f) + (low g - low f))
               (lt-of-le-of-lt (le-trans (le-of-eq (pow-add 2 (prec g - 1) k)) (mul-le-mul-right (2 ^ k) at-least))
               (lt-of-le-of-lt (le-of-eq moved) (lt-of-lt-of-le (mul-lt-mul-of-pos-right inside (pow-pos (low g - low f))) (le-of-eq (sym (pow-add 2 (low f + suc (emax f)) (low g - low f))))))));
         }
+
+-- ---- positive values
+
+pub round-of : (f : Format) (y : Float) → T (positive y) → T (fits f y) → round f false (num y) (den y) ≡ y
+round-of f (fin false m e) p fit = round-own f false m e fit
+
+pub le-antisymm-positive : (f : Format) (x y : Float) → T (fits f x) → T (fits f y) → T (positive x) → T (positive y) → T (le x y) → T (le y x) → x ≡ y
+le-antisymm-positive f x y fit fit' p q h k =
+    value-unique f x y false (num y) (den y) fit fit' (den-pos y)
+    (value-of x (num y) (den y) p (le-antisymm (le→cross x y p q h) (le→cross y x q p k)))
+    (own-value y q)

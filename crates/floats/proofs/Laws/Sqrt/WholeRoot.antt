@@ -2,6 +2,7 @@
 use mathlib.Core.Path.{_≡_, sym, _∙_, subst}
 use Prim.Native.Nat.{ℕ, zero, suc, _+_, _*_, _/_, _^_, _≤_, _<_, zero-le}
 use native.Mathlib.Nat.{le-trans, le-of-eq, lt-of-lt-of-le, lt-of-le-of-lt, lt-of-not-le, not-le-of-lt, zero-add, add-assoc, mul-pos, mul-le-mul, mul-mul-mul-comm, le-mul-of-pos-right, div-mul-le-self, lt-div-mul-add, le-div-iff-mul-le, div-lt-iff-lt-mul, two-pow-succ, mul-add, add-mul, one-mul, mul-one}
+use native.Mathlib.Numerals.{add-one-le}
 use native.Mathlib.Omega.{arith}
 use mathlib.Core.Bool.{Bool, true, false, not, cond}
 use lib.Dec.{T, leb, leb→le, nleb→lt}
@@ -64,11 +65,8 @@ wholeRoot-div n c C =
     let r = wholeRoot n in
     let q = r / c in
     let low : q * c ≤ r = div-mul-le-self r c in
-    let high : r + 1 ≤ (q + 1) * c = rw (add-mul, one-mul) (step r (q * c + c) (lt-div-mul-add C)) in
+    let high : r + 1 ≤ (q + 1) * c = rw (add-mul, one-mul) (add-one-le (lt-div-mul-add C)) in
     wholeRoot-unique (
       le-div-iff-mul-le (mul-pos C C) .1 (le-trans (le-of-eq (mul-mul-mul-comm q q c c)) (le-trans (mul-le-mul low low) (wholeRoot-is n .0))),
       div-lt-iff-lt-mul (mul-pos C C) .1 (lt-of-lt-of-le (wholeRoot-is n .1) (le-trans (mul-le-mul high high) (le-of-eq (sym (mul-mul-mul-comm (q + 1) (q + 1) c c))))),
     )
-  where
-    step : (a b : ℕ) → a < b → a + 1 ≤ b
-    step a b h = omega arith

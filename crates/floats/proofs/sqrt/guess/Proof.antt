@@ -1,17 +1,20 @@
 -- `floats::sqrt::guess` meets its contract: its result has at most 32 digits, since it is a remainder by 2 ^ 32. Assumes nothing.
-use Prim.Native.Nat.{ℕ, _%_, _^_, _<_}
-use native.Mathlib.Nat.{le-of-lt, lt-of-lt-of-le}
-use native.Mathlib.Omega.{arith}
 use mathlib.Core.Path.{_≡_}
-use mathlib.Core.Bool.{Bool, true, false, not}
+use mathlib.Core.Bool.{false, not, true≢false}
+use Prim.Native.Nat.{_%_, _^_}
+use native.Mathlib.Omega.{arith}
 use borrow.Author.Needs.{needs}
-use lib.Dec.{T, le→leb, lit≤}
-use lib.Ieee.{inFloat}
-use Rattle.floats.proofs.Laws.Sqrt.Special.{self-equal-not-nan}
+use lib.Dec.{T, le→leb}
+use lib.Ieee.{Float, nan, inf, fin, isNan, inFloat, ne}
 use Rattle.floats.proofs.sqrt.guess.Statement.{statement}
 use Rattle.floats.proofs.sqrt.guess.Tie as tie
-use Rattle.floats.proofs.sqrt.guess.Reads as reads
-use Rattle.floats.proofs.sqrt.guess.Lts as lts
+
+-- what `if whole != whole { return .. }` leaves
+self-equal-not-nan : (x : Float) → ne x x ≡ false → T (not (isNan x))
+unfolding ne isNan
+self-equal-not-nan nan h = absurd (true≢false h)
+self-equal-not-nan (inf s) h = tt
+self-equal-not-nan (fin s m e) h = tt
 
 int-to-float-z : tie.Need-int-to-float-z
 unfolding inFloat

@@ -1,8 +1,8 @@
 -- `floats::sqrt::sqrtf` meets its contract: of a zero, an infinity, a NaN and a number below zero by the definition's own cases, and of any other number by `sqrt-pattern`. Assumes nothing.
 use mathlib.Core.Logic.{inl, inr}
 use mathlib.Core.Path.{_≡_, refl, sym, ap, _∙_, subst}
-use mathlib.Core.Bool.{Bool, true, false, not, true≢false, false≢true}
-use Prim.Native.Nat.{ℕ, _+_, _*_, _/_, _%_, _≤_, _<_}
+use mathlib.Core.Bool.{Bool, true, false, not, true≢false}
+use Prim.Native.Nat.{ℕ, _+_, _-_, _*_, _/_, _%_, _^_, _≤_, _<_}
 use native.Mathlib.Nat.{le-trans, mod-le}
 use native.Mathlib.Omega.{arith}
 use borrow.Author.Needs.{needs}
@@ -10,11 +10,11 @@ use lib.Dec.{T, T-not}
 use lib.Arith.{le→nltb}
 use lib.Ieee.{Float, nan, inf, fin, binary32, binary64, fits, isNan, nanBits, ofBits, toBits, lt, eq, div}
 use lib.Ieee.Fits.{and-i, fits-widens}
-use lib.Ieee.Positive.{positive}
+use lib.Ieee.Positive.{positive, above}
 use lib.Ieee.Bits.{ofBits-toBits, nanBits-above}
 use Rattle.floats.specs.Sqrt.{sqrt}
-use Rattle.floats.proofs.Laws.Sqrt.Special.{zero, sqrt-nan, sqrt-zero, sqrt-infinity, sqrt-below-zero, sqrt-fits, Against-zero, not-a-number, equals-zero, below-zero, above-zero, infinite, against-zero, above-of-lt, lt-of-above, above-of-positive, positive-or-infinite}
-use Rattle.floats.proofs.Laws.Sqrt.Pattern.{exponent, field, root, field-in, root-in, sqrt-pattern}
+use Rattle.floats.proofs.Laws.Sqrt.Special.{zero, sqrt-nan, sqrt-zero, sqrt-infinity, sqrt-below-zero, sqrt-fits, equals-zero, above-zero, infinite, Against-zero, not-a-number, below-zero, at-least-zero, against-zero, above-of-lt, lt-of-above, above-of-positive, positive-or-infinite}
+use Rattle.floats.proofs.Laws.Sqrt.Pattern.{exponent, field, field-in, root-in, sqrt-pattern}
 use Rattle.floats.proofs.sqrt.sqrtf.Statement.{statement}
 use Rattle.floats.proofs.sqrt.sqrtf.Tie as tie
 use Rattle.floats.proofs.sqrt.sqrtf.Reads as reads
@@ -38,23 +38,19 @@ nan-is = refl
 passed : {b : Bool} → b ≡ true → T b
 passed e = subst T (sym e) tt
 
--- a test is given where it computes no further
 no-root : (x : Float) → eq x zero ≡ false → not (lt zero x) ≡ true → sqrt binary32 x ≡ nan
 no-root x not-zero not-above = go (against-zero x)
   where
     go : Against-zero x → sqrt binary32 x ≡ nan
     go (not-a-number e) = ap (sqrt binary32) e ∙ sqrt-nan binary32
-    go (equals-zero t) = absurd (subst T not-zero t)
     go (below-zero t) = sqrt-below-zero binary32 x t
-    go (above-zero p) = absurd (T-not (lt zero x) (passed not-above) (lt-of-above x (above-of-positive x p)))
-    go (infinite e) = absurd (T-not (lt zero x) (passed not-above) (lt-of-above x (subst (λ (y : Float). T (lib.Ieee.Positive.above y)) (sym e) tt)))
+    go (at-least-zero (equals-zero t)) = absurd (subst T not-zero t)
+    go (at-least-zero (above-zero p)) = absurd (T-not (lt zero x) (passed not-above) (lt-of-above x (above-of-positive x p)))
+    go (at-least-zero (infinite e)) = absurd (T-not (lt zero x) (passed not-above) (lt-of-above x (subst (λ (y : Float). T (above y)) (sym e) tt)))
 
 infinity-equals : (x : Float) → T (eq x (inf false)) → x ≡ inf false
 unfolding eq
-infinity-equals nan t = absurd t
-infinity-equals (inf true) t = absurd t
 infinity-equals (inf false) t = refl
-infinity-equals (fin s m e) t = absurd t
 
 is-positive : (x : Float) → not (lt zero x) ≡ false → eq x (inf false) ≡ false → T (positive x)
 unfolding eq
@@ -69,11 +65,13 @@ is-positive x over-zero not-infinite = elim (positive-or-infinite x (above-of-lt
 
 not-nan : (x : Float) → T (positive x) → T (not (isNan x))
 unfolding isNan
-not-nan nan p = absurd p
-not-nan (inf s) p = tt
 not-nan (fin s m e) p = tt
 
--- ---- the facts at the code's last part
+-- a pattern up to infinity's is no NaN's
+upto-infinity : (n : ℕ) → n ≤ 2139095040 → T (not (nanBits binary32 n))
+upto-infinity n h = subst (λ (b : Bool). T (not b)) (sym (nanBits-above binary32 n)) (le→nltb 2139095040 (n % 2 ^ 31) (le-trans (mod-le n (2 ^ 31)) h))
+
+-- ---- the early returns
 returns : tie.Need-returns
 returns c = sym (sqrt-zero binary32 (c .before .args .x) (subst (λ (z : Float). T (eq (c .before .args .x) z)) zero-is (passed (c .if1 .taken))))
 
@@ -93,8 +91,9 @@ returns-3 c =
     let e = infinity-equals x (subst (λ (z : Float). T (eq x z)) infinity-is (passed (c .if3 .taken))) in
     e ∙ sym (ap (sqrt binary32) e ∙ sqrt-infinity binary32)
 
-above : (c : lts.Else3 (whole-root-reads.Asked, whole-root-reads.Learnt) reads.Pre reads.Post) → T (positive (c .before .before .before .args .x))
-above c =
+-- ---- past them x is positive, and a value of the format
+is-above : (c : lts.Else3 (whole-root-reads.Asked, whole-root-reads.Learnt) reads.Pre reads.Post) → T (positive (c .before .before .before .args .x))
+is-above c =
     let x = c .before .before .before .args .x in
     is-positive x (subst (λ (z : Float). not (lt z x) ≡ false) zero-is (c .before .if2 .left)) (subst (λ (z : Float). eq x z ≡ false) infinity-is (c .if3 .left))
 
@@ -104,10 +103,10 @@ fit c = subst T (sym (c .before .before .before .good .0 .1)) tt
 float-to-float-bits : tie.Need-float-to-float-bits
 float-to-float-bits c =
     let x = c .before .before .before .before .args .x in
-    and-i (fits binary64 x) (not (isNan x)) (fits-widens x (fit (c .before))) (not-nan x (above (c .before)))
+    and-i (fits binary64 x) (not (isNan x)) (fits-widens x (fit (c .before))) (not-nan x (is-above (c .before)))
 
 float-to-bits-bits : tie.Need-float-to-bits-bits
-float-to-bits-bits c = not-nan (c .before .before .before .before .args .x) (above (c .before))
+float-to-bits-bits c = not-nan (c .before .before .before .before .args .x) (is-above (c .before))
 
 add-digits : tie.Need-add-digits
 add-digits c = search needs
@@ -126,16 +125,16 @@ module _ (c : lts.After-whole-root (whole-root-reads.Asked, whole-root-reads.Lea
   given : Float
   given = c .before .before .before .before .before .args .x
 
-  numbers : (386 ≤ (exponent (toBits binary64 given) + 1) / 2) × (field (toBits binary64 given) < 190) × (c .whole-root .result < 33554431)
+  numbers : (386 ≤ (exponent (toBits binary64 given) + 1) / 2) × (field (toBits binary64 given) < 190) × (c .whole-root .result < 2 ^ 25 - 1)
   unfolding given
   numbers =
-      let f = field-in given (fit (c .before .before)) (above (c .before .before)) in
-      (f .0, f .1, subst (λ (r : ℕ). r < 33554431) (sym (c .whole-root .ensures)) (root-in given (fit (c .before .before)) (above (c .before .before)) .1))
+      let f = field-in given (fit (c .before .before)) (is-above (c .before .before)) in
+      (f .0, f .1, subst (λ (r : ℕ). r < 2 ^ 25 - 1) (sym (c .whole-root .ensures)) (root-in given (fit (c .before .before)) (is-above (c .before .before)) .1))
 
-  pattern-is : field (toBits binary64 given) * 8388608 + (c .whole-root .result + 1) / 2 ≡ toBits binary32 (sqrt binary32 given)
+  pattern-is : field (toBits binary64 given) * 2 ^ 23 + (c .whole-root .result + 1) / 2 ≡ toBits binary32 (sqrt binary32 given)
   unfolding given
   pattern-is =
-      ap (λ (r : ℕ). field (toBits binary64 given) * 8388608 + (r + 1) / 2) (c .whole-root .ensures) ∙ sym (sqrt-pattern given (fit (c .before .before)) (above (c .before .before)))
+      ap (λ (r : ℕ). field (toBits binary64 given) * 2 ^ 23 + (r + 1) / 2) (c .whole-root .ensures) ∙ sym (sqrt-pattern given (fit (c .before .before)) (is-above (c .before .before)))
 
 add-result : tie.Need-add-result
 unfolding given
@@ -162,10 +161,7 @@ cast-result c = omega (arith, numbers c)
 
 float-from-bits-result : tie.Need-float-from-bits-result
 unfolding given
-float-from-bits-result c =
-    let pattern = field (toBits binary64 (given c)) * 8388608 + (c .whole-root .result + 1) / 2 in
-    let small : pattern ≤ 2139095040 = omega (arith, numbers c) in
-    subst (λ (b : Bool). T (not b)) (sym (nanBits-above binary32 pattern)) (le→nltb 2139095040 (pattern % 2147483648) (le-trans (mod-le pattern 2147483648) small))
+float-from-bits-result c = upto-infinity _ (omega (arith, numbers c))
 
 returns-4 : tie.Need-returns-4
 unfolding given

@@ -7,9 +7,6 @@ use lib.Pow.{pow-pos}
 use Rattle.floats.proofs.Laws.Sqrt.WholeRoot.{next-square, lt-of-squares, wholeRoot-unique}
 use Rattle.floats.proofs.sqrt.whole_root.Statement.{statement}
 use Rattle.floats.proofs.sqrt.whole_root.Tie as tie
-use Rattle.floats.proofs.sqrt.whole_root.Reads as reads
-use Rattle.floats.proofs.sqrt.whole_root.Lts as lts
-use Rattle.floats.proofs.sqrt.guess.Reads as guess-reads
 
 square-fits : (r : ℕ) → r < 2 ^ 32 → r * r < 2 ^ 64
 square-fits r h = lt-of-le-of-lt (mul-le-mul-left r (le-of-lt h)) (mul-lt-mul-of-pos-right h (pow-pos 32))

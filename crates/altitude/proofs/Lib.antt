@@ -1,0 +1,2 @@
+-- What the layers above cite of altitude control.
+pub mod Laws

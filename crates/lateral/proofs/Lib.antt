@@ -1,0 +1,2 @@
+-- What the layers above cite of lateral control.
+pub mod Laws

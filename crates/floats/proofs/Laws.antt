@@ -9,6 +9,7 @@ pub mod Grid
 -- Signs, special values and bit patterns.
 pub mod Special
 pub mod Sign
+pub mod Sizes
 pub mod Nearest
 pub mod Fields
 pub mod Pattern
@@ -16,3 +17,7 @@ pub mod Pattern
 pub mod MinMax
 pub mod Narrow
 pub mod Sqrt
+pub mod Align
+pub mod Ranges
+pub mod SinCos
+pub mod Atan

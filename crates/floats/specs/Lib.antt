@@ -5,3 +5,5 @@ pub mod Compare
 pub mod MinMax
 pub mod Narrow
 pub mod Sqrt
+pub mod SinCos
+pub mod Atan

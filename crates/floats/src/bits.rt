@@ -3,6 +3,7 @@ ghost use mathlib.Core.Path.{_≡_};
 ghost use Prim.Native.Nat.{_<_};
 ghost use lib.Ieee.{binary32, ofBits, toBits};
 ghost use Rattle.floats.specs.Bits.{le-word, le-bytes};
+ghost use Rattle.floats.specs.Compare.{abs};
 
 // The float that a pattern stands for. Every NaN pattern gives a NaN.
 pub fn from_bits(bits: u32) -> f32
@@ -22,6 +23,16 @@ pub fn to_bits(x: f32) -> u32
         return 2143289344;
     }
     f32::to_bits(x)
+}
+
+// The pattern of a float's size, which is the float's without the highest bit.
+pub fn size_bits(x: f32) -> u32
+    ensures { λ r. ⌜ r ≡ toBits binary32 (abs x) ⌝ }
+{
+    if x != x {
+        return 2143289344;
+    }
+    f32::to_bits(x) % 2147483648
 }
 
 // The float of four bytes, the low byte first.

@@ -1,6 +1,7 @@
 // Tests of one float: NaN, finite; its size and its sign.
 ghost use mathlib.Core.Path.{_≡_};
-ghost use lib.Ieee.{isNan};
+ghost use mathlib.Core.Bool.{cond};
+ghost use lib.Ieee.{isNan, neg};
 ghost use lib.Ieee.Scale.{finite};
 ghost use Rattle.floats.specs.Compare.{abs, isNegative, signum};
 
@@ -50,4 +51,14 @@ pub fn signum(x: f32) -> f32
         return -1.0;
     }
     1.0
+}
+
+// x with the sign flipped where `flip` is true.
+pub fn with_sign(flip: bool, x: f32) -> f32
+    ensures { λ r. ⌜ r ≡ cond flip (neg x) x ⌝ }
+{
+    if flip {
+        return -x;
+    }
+    x
 }

@@ -5,6 +5,8 @@ ghost use Rattle.floats.specs.Compare.{abs, signum};
 ghost use Rattle.floats.specs.MinMax.{min, max, clamp};
 ghost use Rattle.floats.specs.Narrow.{convert};
 ghost use Rattle.floats.specs.Sqrt.{sqrt};
+ghost use Rattle.floats.specs.SinCos.{sinf, cosf};
+ghost use Rattle.floats.specs.Atan.{atanf, atan2f};
 
 #[no_mangle]
 pub extern "C" fn tarragonhoe_bits(bits: u32) -> u32
@@ -60,4 +62,32 @@ pub extern "C" fn tarragonhoe_sqrtf(x: f32) -> f32
     ensures { λ r. ⌜ r ≡ sqrt binary32 x ⌝ }
 {
     floats::sqrt::sqrtf(x)
+}
+
+#[no_mangle]
+pub extern "C" fn tarragonhoe_sinf(x: f32) -> f32
+    ensures { λ r. ⌜ r ≡ sinf x ⌝ }
+{
+    floats::sin_cos::sinf(x)
+}
+
+#[no_mangle]
+pub extern "C" fn tarragonhoe_cosf(x: f32) -> f32
+    ensures { λ r. ⌜ r ≡ cosf x ⌝ }
+{
+    floats::sin_cos::cosf(x)
+}
+
+#[no_mangle]
+pub extern "C" fn tarragonhoe_atanf(x: f32) -> f32
+    ensures { λ r. ⌜ r ≡ atanf x ⌝ }
+{
+    floats::atan::atanf(x)
+}
+
+#[no_mangle]
+pub extern "C" fn tarragonhoe_atan2f(y: f32, x: f32) -> f32
+    ensures { λ r. ⌜ r ≡ atan2f y x ⌝ }
+{
+    floats::atan::atan2f(y, x)
 }

@@ -1,0 +1,2 @@
+-- What the layers above cite of copter guidance.
+pub mod Laws

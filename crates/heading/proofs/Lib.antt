@@ -1,0 +1,2 @@
+-- What the layers above cite of the headings and of wind memory.
+pub mod Laws

@@ -1,0 +1,4 @@
+-- Laws of the definitions of specs/. Assumes nothing.
+pub mod Window
+pub mod Sample
+pub mod Covariance

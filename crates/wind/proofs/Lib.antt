@@ -1,0 +1,2 @@
+-- What is shown of the definitions, for the layers above. Assumes nothing.
+pub mod Laws

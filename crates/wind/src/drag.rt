@@ -1,0 +1,155 @@
+// The drag along one axis of the thrust frame: a bluff body's, which grows with the airspeed, and the
+// rotors' momentum drag.
+use math::vectors::Vec2;
+ghost use mathlib.Core.Path.{_≡_};
+ghost use Rattle.wind.specs.Drag.{is-on, axis-drag, push, slope, newton-step, still-air, against, air-velocity, drag-along, drag};
+
+// Sea-level air density, in kg/m³.
+pub const AIR_DENSITY_KGPM3: f32 = 1.225;
+
+// The drag figures of document 01's fields 42 to 50, in the order of the source.
+pub struct WindConfig {
+    pub ballistic_kgpm2: Vec2,
+    pub momentum_per_s: Vec2,
+    pub force_noise_mps2: f32,
+    pub process_noise_mps_per_rt_s: f32,
+    pub initial_sd_mps: f32,
+    pub gate_sigma: f32,
+    pub max_axial_speed_mps: f32,
+}
+
+// The coefficients of one axis.
+pub struct AxisDrag {
+    pub k_per_m: f32,
+    pub mu_per_s: f32,
+}
+
+// The air velocity along an axis; none where the axis has no drag.
+pub enum AirVelocity {
+    Unknown,
+    Along(f32),
+}
+
+impl WindConfig {
+    // Whether any axis has a drag coefficient.
+    pub fn is_on(self) -> bool
+        ensures { λ r. ⌜ r ≡ is-on self ⌝ }
+    {
+        if self.ballistic_kgpm2.x > 0.0 {
+            return true;
+        }
+        if self.ballistic_kgpm2.y > 0.0 {
+            return true;
+        }
+        if self.momentum_per_s.x > 0.0 {
+            return true;
+        }
+        self.momentum_per_s.y > 0.0
+    }
+
+    // The drag's acceleration at an air velocity in the thrust frame, level.
+    pub fn drag_mps2(self, air_mps: Vec2) -> Vec2
+        ensures { λ r. ⌜ r ≡ drag self «air_mps» ⌝ }
+    {
+        let along_x = AxisDrag::new(self.ballistic_kgpm2.x, self.momentum_per_s.x);
+        let along_y = AxisDrag::new(self.ballistic_kgpm2.y, self.momentum_per_s.y);
+        Vec2 {
+            x: along_x.drag_along(air_mps.x),
+            y: along_y.drag_along(air_mps.y),
+        }
+    }
+}
+
+impl AxisDrag {
+    // Half the air's density over the ballistic figure, 0 for a figure that is not positive.
+    pub fn new(ballistic: f32, momentum: f32) -> AxisDrag
+        ensures { λ r. ⌜ r ≡ axis-drag ballistic momentum ⌝ }
+    {
+        if ballistic > 0.0 {
+            return AxisDrag {
+                k_per_m: 0.5 * AIR_DENSITY_KGPM3 / ballistic,
+                mu_per_s: momentum,
+            };
+        }
+        AxisDrag {
+            k_per_m: 0.0,
+            mu_per_s: momentum,
+        }
+    }
+
+    // Minus the push at an air velocity with none along the thrust axis, with the velocity's sign.
+    pub fn drag_along(self, air_mps: f32) -> f32
+        ensures { λ r. ⌜ r ≡ drag-along self «air_mps» ⌝ }
+    {
+        -self.push_mps2(air_mps, 0.0) * floats::compare::signum(air_mps)
+    }
+
+    // The size of the drag's acceleration.
+    pub fn push_mps2(self, air_mps: f32, axial_mps: f32) -> f32
+        ensures { λ r. ⌜ r ≡ push self «air_mps» «axial_mps» ⌝ }
+    {
+        let airspeed_mps = floats::sqrt::sqrtf(air_mps * air_mps + axial_mps * axial_mps);
+        (self.k_per_m * airspeed_mps + self.mu_per_s) * floats::compare::abs(air_mps)
+    }
+
+    // How the push grows with the air velocity.
+    pub fn slope_per_s(self, air_mps: f32, axial_mps: f32) -> f32
+        ensures { λ r. ⌜ r ≡ slope self «air_mps» «axial_mps» ⌝ }
+    {
+        let airspeed_mps = floats::sqrt::sqrtf(air_mps * air_mps + axial_mps * axial_mps);
+        if airspeed_mps > 0.0 {
+            let bluff = self.k_per_m * (airspeed_mps + air_mps * air_mps / airspeed_mps);
+            return bluff + self.mu_per_s;
+        }
+        0.0 + self.mu_per_s
+    }
+
+    // One step of Newton's method for the speed whose push is `push`.
+    fn newton_step(self, push: f32, axial_mps: f32, speed: f32) -> f32
+        ensures { λ r. ⌜ r ≡ newton-step self push «axial_mps» speed ⌝ }
+    {
+        let excess = self.push_mps2(speed, axial_mps) - push;
+        let slope = self.slope_per_s(speed, axial_mps);
+        if slope > 0.0 {
+            return speed - excess / slope;
+        }
+        speed
+    }
+
+    // The speed whose push is `push` where there is none along the thrust axis.
+    fn still_air(self, push: f32) -> f32
+        ensures { λ r. ⌜ r ≡ still-air self push ⌝ }
+    {
+        let k = self.k_per_m;
+        let mu = self.mu_per_s;
+        (floats::sqrt::sqrtf(mu * mu + 4.0 * k * push) - mu) / (2.0 * k)
+    }
+
+    // The air velocity that pushes with `force_mps2`; it is against the force.
+    pub fn air_velocity(self, force_mps2: f32, axial_mps: f32) -> AirVelocity
+        ensures { λ r. ⌜ r ≡ air-velocity self «force_mps2» «axial_mps» ⌝ }
+    {
+        let push = floats::compare::abs(force_mps2);
+        if self.k_per_m > 0.0 {
+            let first = self.newton_step(push, axial_mps, self.still_air(push));
+            let second = self.newton_step(push, axial_mps, first);
+            let third = self.newton_step(push, axial_mps, second);
+            let fourth = self.newton_step(push, axial_mps, third);
+            return AirVelocity::Along(against(force_mps2, fourth));
+        }
+        if self.mu_per_s > 0.0 {
+            return AirVelocity::Along(against(force_mps2, push / self.mu_per_s));
+        }
+        AirVelocity::Unknown
+    }
+}
+
+// A speed with the sign against a force.
+fn against(force_mps2: f32, speed: f32) -> f32
+    ensures { λ r. ⌜ r ≡ against «force_mps2» speed ⌝ }
+{
+    if force_mps2 > 0.0 {
+        return -speed;
+    }
+    speed
+}

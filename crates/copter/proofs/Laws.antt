@@ -3,3 +3,12 @@ pub mod Config
 pub mod Descent
 pub mod Thrust
 pub mod Worked
+-- Of whole calls.
+pub mod Calls
+pub mod Answers
+pub mod Heading
+pub mod Navigation
+pub mod Piloted
+-- Over any list of operations.
+pub mod Norm
+pub mod Reached

@@ -1,5 +1,5 @@
 -- The tilt toward a waypoint, from copter.rs. Assumes nothing.
-use mathlib.Core.Bool.{Bool, true, false, cond, _&&_, _||_}
+use mathlib.Core.Bool.{Bool, false, cond, _&&_}
 use lib.Ieee.{Float, neg, lt, eq}
 use lib.Ieee.Scale.{finite}
 use Rattle.floats.specs.Ops.{_⊕_, _⊖_, _⊗_, _⊘_}
@@ -119,26 +119,43 @@ run self config step target own wind heading =
       «tilt_rad» = tilt;
     }
 
--- a call in which the loop does not run: the divider and the flag may change
-unfoldable pub not-run : LateralMemory → RateDivider → Bool → LateralMemory
-not-run self rate capped =
+-- Not due: the divider alone goes on, and the stored tilt is answered. This is the one place where it is.
+unfoldable pub held : LateralMemory → RateDivider → Tilted
+held self rate =
     record {
-      controller = self .controller;
-      rate = rate;
+      memory =
+          record {
+            controller = self .controller;
+            rate = rate;
+            «tilt_rad» = self .«tilt_rad»;
+            «tilt_capped» = self .«tilt_capped»;
+            «requested_accel_mps2» = self .«requested_accel_mps2»;
+          };
       «tilt_rad» = self .«tilt_rad»;
-      «tilt_capped» = capped;
-      «requested_accel_mps2» = self .«requested_accel_mps2»;
     }
 
--- Not due, the stored tilt is answered: this is the one place where it is. Due with a number that is not finite, the answer is level, the stored tilt
--- stays, capped is cleared and the divider is not restarted.
+-- Due with a number that is not finite: the answer is level, the stored tilt stays, capped is cleared and the divider is not restarted.
+unfoldable pub levelled : LateralMemory → RateDivider → Tilted
+levelled self rate =
+    let kept = self .«tilt_rad» in
+    record {
+      memory =
+          record {
+            controller = self .controller;
+            rate = rate;
+            «tilt_rad» = kept;
+            «tilt_capped» = false;
+            «requested_accel_mps2» = self .«requested_accel_mps2»;
+          };
+      «tilt_rad» = zeros;
+    }
+
 unfoldable pub tilted-when : Due → LateralMemory → RateDivider → CopterGuidanceConfig → Course → Filter → VehicleState → Tilted
-tilted-when NotYet self rate config course estimate state = record { memory = not-run self rate (self .«tilt_capped»); «tilt_rad» = self .«tilt_rad» }
+tilted-when NotYet self rate config course estimate state = held self rate
 tilted-when (Step step) self rate config course estimate state =
     let target = lateral-target course in
     let own = lateral-estimate state in
-    cond (navigable target own (state .«heading_rad»)) (run self config step target own (wind-or-zero estimate) (state .«heading_rad»))
-    (record { memory = not-run self rate false; «tilt_rad» = zeros })
+    cond (navigable target own (state .«heading_rad»)) (run self config step target own (wind-or-zero estimate) (state .«heading_rad»)) (levelled self rate)
 
 unfoldable pub tilt-toward : LateralMemory → CopterGuidanceConfig → Float → Course → Filter → VehicleState → Tilted
 unfolding tilted-when

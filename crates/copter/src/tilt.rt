@@ -11,7 +11,7 @@ use wind::drag::WindConfig;
 use wind::state::VehicleState;
 use wind::window::Filter;
 ghost use mathlib.Core.Path.{_≡_};
-ghost use Rattle.copter.specs.Tilt.{tilt-for-acceleration, past-hold-band, drag-feedforward, velocity-or-zero, wind-or-zero, lateral-target, lateral-estimate, navigable, not-run, limit, run, tilt-toward};
+ghost use Rattle.copter.specs.Tilt.{tilt-for-acceleration, past-hold-band, drag-feedforward, velocity-or-zero, wind-or-zero, lateral-target, lateral-estimate, navigable, held, levelled, limit, run, tilt-toward};
 
 // Where to fly: a position, the target's own velocity and the largest speed.
 pub struct Course {
@@ -169,11 +169,7 @@ impl LateralMemory {
         let rate = paced.divider;
         let due = paced.due;
         let Due::Step(step) = due else {
-            let tilt_rad = self.tilt_rad;
-            return Tilted {
-                memory: self.paced(rate, self.tilt_capped),
-                tilt_rad,
-            };
+            return self.held(rate);
         };
         let target = lateral_target(course);
         let own = lateral_estimate(state);
@@ -187,25 +183,45 @@ impl LateralMemory {
                 state.heading_rad,
             );
         }
+        self.levelled(rate)
+    }
+
+    // Not due: the stored tilt, and the divider alone goes on.
+    fn held(self, rate: RateDivider) -> Tilted
+        ensures { λ r. ⌜ r ≡ held self rate ⌝ }
+    {
+        let controller = self.controller;
+        let stored = self.tilt_rad;
+        let requested_accel_mps2 = self.requested_accel_mps2;
         Tilted {
-            memory: self.paced(rate, false),
-            tilt_rad: Vec2::zeros(),
+            memory: LateralMemory {
+                controller,
+                rate,
+                tilt_rad: stored,
+                tilt_capped: self.tilt_capped,
+                requested_accel_mps2,
+            },
+            tilt_rad: stored,
         }
     }
 
-    // With another divider and flag, and the rest kept.
-    fn paced(self, rate: RateDivider, tilt_capped: bool) -> LateralMemory
-        ensures { λ r. ⌜ r ≡ not-run self rate «tilt_capped» ⌝ }
+    // Due with a number that is not finite: level, and the stored tilt stays.
+    fn levelled(self, rate: RateDivider) -> Tilted
+        ensures { λ r. ⌜ r ≡ levelled self rate ⌝ }
     {
         let controller = self.controller;
-        let tilt_rad = self.tilt_rad;
+        let kept = self.tilt_rad;
         let requested_accel_mps2 = self.requested_accel_mps2;
-        LateralMemory {
-            controller,
-            rate,
-            tilt_rad,
-            tilt_capped,
-            requested_accel_mps2,
+        let level = Vec2::zeros();
+        Tilted {
+            memory: LateralMemory {
+                controller,
+                rate,
+                tilt_rad: kept,
+                tilt_capped: false,
+                requested_accel_mps2,
+            },
+            tilt_rad: level,
         }
     }
 

@@ -13,12 +13,12 @@ enum-known-due c = search needs
 enum-told : tie.Need-enum-told
 enum-told c = search needs
 
-paced-requires : tie.Need-paced-requires
-paced-requires c κs = search needs
+held-requires : tie.Need-held-requires
+held-requires c κs = search needs
 
 returns : tie.Need-returns
 unfolding tilt-toward tilted-when
-returns c = rw (c .paced .ensures, ← c .before .before .before .before .due .ensures, c .before .before .enum-told .given .1)
+returns c = rw (c .held .ensures, ← c .before .before .before .due .ensures, c .before .enum-told .given .1)
 
 lateral-target-requires : tie.Need-lateral-target-requires
 lateral-target-requires c κs = search needs
@@ -49,24 +49,20 @@ returns-2 c =
       c .before .wind-or-zero .ensures,
     )
 
-paced-requires-2 : tie.Need-paced-requires-2
-paced-requires-2 c κs = search needs
-
-zeros-requires : tie.Need-zeros-requires
-zeros-requires c κs = search needs
+levelled-requires : tie.Need-levelled-requires
+levelled-requires c κs = search needs
 
 returns-3 : tie.Need-returns-3
 unfolding tilt-toward tilted-when
 returns-3 c =
     rw (
-      ← c .before .before .before .before .before .before .before .before .before .due .ensures,
-      c .before .before .before .before .before .before .before .due2 .given .1,
-      ← c .before .before .before .before .before .lateral-target .ensures,
-      ← c .before .before .before .before .lateral-estimate .ensures,
-      ← c .before .before .before .navigable .ensures,
-      c .before .before .if1 .left,
-      c .zeros .ensures,
-      c .before .paced2 .ensures,
+      ← c .before .before .before .before .before .before .before .before .due .ensures,
+      c .before .before .before .before .before .before .due2 .given .1,
+      ← c .before .before .before .before .lateral-target .ensures,
+      ← c .before .before .before .lateral-estimate .ensures,
+      ← c .before .before .navigable .ensures,
+      c .before .if1 .left,
+      c .levelled .ensures,
     )
 
 pub tilt-toward-spec : {M : Type 1} → statement M
@@ -76,7 +72,7 @@ tilt-toward-spec =
     due-requires
     enum-known-due
     enum-told
-    paced-requires
+    held-requires
     returns
     lateral-target-requires
     lateral-estimate-requires
@@ -84,6 +80,5 @@ tilt-toward-spec =
     wind-or-zero-requires
     run-requires
     returns-2
-    paced-requires-2
-    zeros-requires
+    levelled-requires
     returns-3)

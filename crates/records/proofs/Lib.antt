@@ -1,0 +1,3 @@
+-- What the proofs share, and what the layers above cite. Assumes nothing.
+pub mod Written
+pub mod Laws

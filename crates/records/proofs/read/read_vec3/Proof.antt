@@ -1,0 +1,35 @@
+-- `records::read::read_vec3` meets its contract. Assumes nothing.
+use borrow.Author.Needs.{needs}
+use Rattle.records.specs.Read.{vec3-at}
+use Rattle.records.proofs.read.read_vec3.Statement.{statement}
+use Rattle.records.proofs.read.read_vec3.Tie as tie
+
+read-f32-requires : tie.Need-read-f32-requires
+read-f32-requires c κs = search needs
+
+add-read-f32 : tie.Need-add-read-f32
+add-read-f32 c = search needs
+
+read-f32-requires-2 : tie.Need-read-f32-requires-2
+read-f32-requires-2 c κs = search needs
+
+add-read-f32-2 : tie.Need-add-read-f32-2
+add-read-f32-2 c = search needs
+
+read-f32-requires-3 : tie.Need-read-f32-requires-3
+read-f32-requires-3 c κs = search needs
+
+returns : tie.Need-returns
+unfolding vec3-at
+returns c = rw (c .before .before .read-f32 .ensures, c .before .read-f322 .ensures, c .read-f323 .ensures)
+
+pub read-vec3-spec : {M : Type 1} → statement M
+read-vec3-spec =
+    tie.close
+    (tie.spec
+    read-f32-requires
+    add-read-f32
+    read-f32-requires-2
+    add-read-f32-2
+    read-f32-requires-3
+    returns)

@@ -1,0 +1,6 @@
+-- The definitions that the contracts cite. Assumes nothing.
+pub mod Answer
+pub mod Craft
+pub mod Read
+pub mod Step
+pub mod Feed

@@ -1,0 +1,6 @@
+// The records of a flight file: one operation reads a record, guides the craft and writes the answer.
+pub mod answer;
+pub mod craft;
+mod read;
+pub mod step;
+mod write;

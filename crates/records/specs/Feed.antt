@@ -20,9 +20,9 @@ use Rattle.records.specs.declared.craft.Craft.{Craft}
 use Rattle.records.specs.declared.answer.Answer.{Answer}
 use Rattle.records.specs.declared.answer.Answer.the-variants.{Attitude, BodyRate, Refused, Done, NoWind, Wind}
 use Rattle.records.specs.declared.step.Handled.{Handled}
+use Rattle.records.specs.Craft.{unconfigured}
 use Rattle.records.specs.Read.{byte-at, state-at, absolute-attitude-command}
 use Rattle.records.specs.Step.{Outcome, step, reported, body-length}
-use Rattle.records.specs.Craft.{unconfigured}
 
 -- ---- feeds
 

@@ -1,6 +1,6 @@
 -- What a record does: document 01's machine, one record at a time. Assumes nothing.
-use Prim.Native.Nat.{ℕ, zero, suc, _+_, _-_, _*_}
-use mathlib.Core.Bool.{Bool, true, false, not, cond, _&&_, _||_}
+use Prim.Native.Nat.{ℕ, zero, suc, _-_, _*_}
+use mathlib.Core.Bool.{Bool, true, not, cond, _&&_, _||_}
 use mathlib.Core.List.{List, _++_}
 use lib.Dec.{leb, ltb, eqb}
 use lib.ListN.{length, take, drop}
@@ -26,6 +26,8 @@ use Rattle.records.specs.declared.answer.Refusal.{Refusal}
 use Rattle.records.specs.declared.answer.Refusal.the-variants.{Field, TimeStep, Heading, Rate, Kind, Short, NotConfigured, Mark, NoRoom}
 use Rattle.records.specs.declared.answer.Answer.{Answer}
 use Rattle.records.specs.declared.answer.Answer.the-variants.{Attitude, BodyRate, Refused, Done, NoWind, Wind}
+use Rattle.records.specs.declared.step.Command.{Command}
+use Rattle.records.specs.declared.step.Command.the-variants as commands
 use Rattle.records.specs.declared.step.Ready.{Ready}
 use Rattle.records.specs.declared.step.Ready.the-variants as readiness
 use Rattle.records.specs.declared.step.Verdict.{Verdict}
@@ -89,35 +91,21 @@ checked (Configured g) body marks =
     (cond (not (time-step-ok dt)) (readiness.Refused TimeStep)
     (cond (heading-ok (state .«heading_rad»)) (readiness.Call g dt state) (readiness.Refused Heading)))
 
+-- a call with its command
+unfoldable pub made : Command → CopterGuidance → Float → VehicleState → Guided
+made (commands.Attitude c) g dt state = attitude-call g dt state c
+made (commands.Waypoint c) g dt state = waypoint-call g dt state c
+made (commands.AbsoluteAttitude c) g dt state = absolute-attitude-call g dt state c
+made (commands.Land c) g dt state = land-call g dt state c
+made (commands.AbsoluteRate c) g dt state = absolute-rate-call g dt state c
+
 -- an accepted call's setpoint, or the refusal
-unfoldable pub called : Ready → Craft → (CopterGuidance → Float → VehicleState → Guided) → Verdict
-called (readiness.Call g dt state) craft call = guided (call g dt state)
-called (readiness.Refused refusal) craft call = refuse craft refusal
+unfoldable pub called : Ready → Craft → Command → Verdict
+called (readiness.Call g dt state) craft command = guided (made command g dt state)
+called (readiness.Refused refusal) craft command = refuse craft refusal
 
-unfoldable pub attitude-record : Craft → List ℕ → Verdict
-attitude-record craft body =
-    called (checked (craft .guidance) body true) craft
-    (λ (g : CopterGuidance) (dt : Float) (state : VehicleState). attitude-call g dt state (attitude-command body))
-
-unfoldable pub waypoint-record : Craft → List ℕ → Verdict
-waypoint-record craft body =
-    called (checked (craft .guidance) body (marks-ok body)) craft
-    (λ (g : CopterGuidance) (dt : Float) (state : VehicleState). waypoint-call g dt state (waypoint-command body))
-
-unfoldable pub absolute-attitude-record : Craft → List ℕ → Verdict
-absolute-attitude-record craft body =
-    called (checked (craft .guidance) body true) craft
-    (λ (g : CopterGuidance) (dt : Float) (state : VehicleState). absolute-attitude-call g dt state (absolute-attitude-command body))
-
-unfoldable pub land-record : Craft → List ℕ → Verdict
-land-record craft body =
-    called (checked (craft .guidance) body true) craft
-    (λ (g : CopterGuidance) (dt : Float) (state : VehicleState). land-call g dt state (land-command body))
-
-unfoldable pub absolute-rate-record : Craft → List ℕ → Verdict
-absolute-rate-record craft body =
-    called (checked (craft .guidance) body true) craft
-    (λ (g : CopterGuidance) (dt : Float) (state : VehicleState). absolute-rate-call g dt state (absolute-rate-command body))
+abbrev pub call-record : Craft → List ℕ → Bool → Command → Verdict
+call-record craft body marks command = called (checked (craft .guidance) body marks) craft command
 
 unfoldable pub rate-record : Craft → Guidance → Verdict
 rate-record craft Unconfigured = refuse craft NotConfigured
@@ -135,12 +123,12 @@ unfoldable pub of-kind : ℕ → Craft → List ℕ → Verdict
 of-kind kind craft body =
     cond (eqb kind 1) (configure craft body)
     (cond (eqb kind 2) (prime-record craft (craft .guidance) body)
-    (cond (eqb kind 3) (attitude-record craft body)
+    (cond (eqb kind 3) (call-record craft body true (commands.Attitude (attitude-command body)))
     (cond (eqb kind 4) (rate-record craft (craft .guidance))
-    (cond (eqb kind 5) (waypoint-record craft body)
-    (cond (eqb kind 6) (absolute-attitude-record craft body)
-    (cond (eqb kind 7) (land-record craft body)
-    (cond (eqb kind 8) (absolute-rate-record craft body) (wind-record craft (craft .guidance)))))))))
+    (cond (eqb kind 5) (call-record craft body (marks-ok body) (commands.Waypoint (waypoint-command body)))
+    (cond (eqb kind 6) (call-record craft body true (commands.AbsoluteAttitude (absolute-attitude-command body)))
+    (cond (eqb kind 7) (call-record craft body true (commands.Land (land-command body)))
+    (cond (eqb kind 8) (call-record craft body true (commands.AbsoluteRate (absolute-rate-command body))) (wind-record craft (craft .guidance)))))))))
 
 -- ---- a record
 

@@ -3,8 +3,13 @@ use crate::answer::Answer;
 use crate::answer::Refusal;
 use crate::craft::Craft;
 use crate::craft::Guidance;
+use copter::commands::AbsoluteAttitudeCommand;
+use copter::commands::AbsoluteRateCommand;
+use copter::commands::AttitudeCommand;
 use copter::commands::Flags;
+use copter::commands::LandCommand;
 use copter::commands::Setpoint;
+use copter::commands::WaypointCommand;
 use copter::guide::Guided;
 use copter::memory::CopterGuidance;
 use wind::state::VehicleState;
@@ -12,7 +17,7 @@ use wind::window::Filter;
 ghost use mathlib.Core.Path.{_≡_};
 ghost use Prim.Native.Nat.{_≤_};
 ghost use lib.ListN.{length};
-ghost use Rattle.records.specs.Step.{lowest, time-step-ok, heading-ok, marks-ok, refuse, setpoint-answer, guided, configure, prime-record, checked, rate-record, wind-record, attitude-record, waypoint-record, absolute-attitude-record, land-record, absolute-rate-record, of-kind, body-length, reported, answered, step};
+ghost use Rattle.records.specs.Step.{lowest, time-step-ok, heading-ok, marks-ok, refuse, setpoint-answer, guided, configure, prime-record, checked, made, call-record, rate-record, wind-record, of-kind, body-length, reported, answered, step};
 
 // The craft after a record, and its answer.
 pub struct Verdict {
@@ -26,6 +31,15 @@ pub struct Handled {
     pub answer: Answer,
     pub taken: usize,
     pub written: usize,
+}
+
+// What a call is told to fly.
+pub enum Command {
+    Attitude(AttitudeCommand),
+    Waypoint(WaypointCommand),
+    AbsoluteAttitude(AbsoluteAttitudeCommand),
+    Land(LandCommand),
+    AbsoluteRate(AbsoluteRateCommand),
 }
 
 // A call whose checks have passed, with the craft, the time step and the state that it is made with,
@@ -175,78 +189,28 @@ fn guided(g: Guided) -> Verdict
     }
 }
 
-fn attitude(craft: Craft, body: &[u8]) -> Verdict
-    requires { ⌜ 80 ≤ length (now body) ⌝ }
-    ensures { λ r. ⌜ r ≡ attitude-record craft (now (body .entry)) ⌝ }
+// A call with its command.
+fn made(command: Command, g: CopterGuidance, dt: f32, state: VehicleState) -> Guided
+    ensures { λ r. ⌜ r ≡ made command g dt state ⌝ }
 {
-    let guidance = craft.guidance;
-    let call = checked(guidance, body, true);
-    match call {
-        Ready::Call(g, dt, state) => guided(g.attitude(
-            dt,
-            state,
-            crate::read::read_attitude(body),
-        )),
-        Ready::Refused(refusal) => refuse(craft, refusal),
+    match command {
+        Command::Attitude(c) => g.attitude(dt, state, c),
+        Command::Waypoint(c) => g.waypoint(dt, state, c),
+        Command::AbsoluteAttitude(c) => g.absolute_attitude(dt, state, c),
+        Command::Land(c) => g.land(dt, state, c),
+        Command::AbsoluteRate(c) => g.absolute_rate(dt, state, c),
     }
 }
 
-fn waypoint(craft: Craft, body: &[u8]) -> Verdict
-    requires { ⌜ 94 ≤ length (now body) ⌝ }
-    ensures { λ r. ⌜ r ≡ waypoint-record craft (now (body .entry)) ⌝ }
+// A call's record: its checks, and then the call.
+fn call(craft: Craft, body: &[u8], marks: bool, command: Command) -> Verdict
+    requires { ⌜ 64 ≤ length (now body) ⌝ }
+    ensures { λ r. ⌜ r ≡ call-record craft (now (body .entry)) marks command ⌝ }
 {
     let guidance = craft.guidance;
-    let call = checked(guidance, body, marks_ok(body));
-    match call {
-        Ready::Call(g, dt, state) => guided(g.waypoint(
-            dt,
-            state,
-            crate::read::read_waypoint(body),
-        )),
-        Ready::Refused(refusal) => refuse(craft, refusal),
-    }
-}
-
-fn absolute_attitude(craft: Craft, body: &[u8]) -> Verdict
-    requires { ⌜ 80 ≤ length (now body) ⌝ }
-    ensures { λ r. ⌜ r ≡ absolute-attitude-record craft (now (body .entry)) ⌝ }
-{
-    let guidance = craft.guidance;
-    let call = checked(guidance, body, true);
-    match call {
-        Ready::Call(g, dt, state) => guided(g.absolute_attitude(
-            dt,
-            state,
-            crate::read::read_absolute_attitude(body),
-        )),
-        Ready::Refused(refusal) => refuse(craft, refusal),
-    }
-}
-
-fn land(craft: Craft, body: &[u8]) -> Verdict
-    requires { ⌜ 72 ≤ length (now body) ⌝ }
-    ensures { λ r. ⌜ r ≡ land-record craft (now (body .entry)) ⌝ }
-{
-    let guidance = craft.guidance;
-    let call = checked(guidance, body, true);
-    match call {
-        Ready::Call(g, dt, state) => guided(g.land(dt, state, crate::read::read_land(body))),
-        Ready::Refused(refusal) => refuse(craft, refusal),
-    }
-}
-
-fn absolute_rate(craft: Craft, body: &[u8]) -> Verdict
-    requires { ⌜ 80 ≤ length (now body) ⌝ }
-    ensures { λ r. ⌜ r ≡ absolute-rate-record craft (now (body .entry)) ⌝ }
-{
-    let guidance = craft.guidance;
-    let call = checked(guidance, body, true);
-    match call {
-        Ready::Call(g, dt, state) => guided(g.absolute_rate(
-            dt,
-            state,
-            crate::read::read_absolute_rate(body),
-        )),
+    let ready = checked(guidance, body, marks);
+    match ready {
+        Ready::Call(g, dt, state) => guided(made(command, g, dt, state)),
         Ready::Refused(refusal) => refuse(craft, refusal),
     }
 }
@@ -318,22 +282,27 @@ fn of_kind(kind: u8, craft: Craft, body: &[u8]) -> Verdict
         return prime(craft, body);
     }
     if kind == 3 {
-        return attitude(craft, body);
+        let command = Command::Attitude(crate::read::read_attitude(body));
+        return call(craft, body, true, command);
     }
     if kind == 4 {
         return rate(craft);
     }
     if kind == 5 {
-        return waypoint(craft, body);
+        let command = Command::Waypoint(crate::read::read_waypoint(body));
+        return call(craft, body, marks_ok(body), command);
     }
     if kind == 6 {
-        return absolute_attitude(craft, body);
+        let command = Command::AbsoluteAttitude(crate::read::read_absolute_attitude(body));
+        return call(craft, body, true, command);
     }
     if kind == 7 {
-        return land(craft, body);
+        let command = Command::Land(crate::read::read_land(body));
+        return call(craft, body, true, command);
     }
     if kind == 8 {
-        return absolute_rate(craft, body);
+        let command = Command::AbsoluteRate(crate::read::read_absolute_rate(body));
+        return call(craft, body, true, command);
     }
     wind(craft)
 }

@@ -13,8 +13,8 @@ use lib.Ieee.Scale.{finite}
 use Rattle.math.specs.Math.{wrap-angle}
 use Rattle.math.proofs.Laws.Wrap.{wrap-finite}
 use Rattle.wind.specs.declared.state.VehicleState.{VehicleState}
-use Rattle.heading.specs.HoverWind as hover
 use Rattle.heading.specs.declared.hover_wind.HoverWind.{HoverWind}
+use Rattle.heading.proofs.Laws.HoverWind.{prime-grounded, prime-airborne}
 use Rattle.copter.specs.Memory.{fresh}
 use Rattle.copter.specs.Guide.{heading-target, followed-heading, command-heading, piloted, absolute-attitude-call, absolute-rate-call, new-craft, prime, wind-reading}
 use Rattle.copter.specs.declared.config.CopterGuidanceConfig.{CopterGuidanceConfig}
@@ -31,12 +31,14 @@ use Rattle.records.specs.declared.answer.Refusal.{Refusal}
 use Rattle.records.specs.declared.answer.Refusal.the-variants.{Field, TimeStep, Heading, Rate, Kind, Short, NotConfigured, Mark, NoRoom}
 use Rattle.records.specs.declared.answer.Answer.{Answer}
 use Rattle.records.specs.declared.answer.Answer.the-variants.{Done}
+use Rattle.records.specs.declared.step.Command.{Command}
+use Rattle.records.specs.declared.step.Command.the-variants as commands
 use Rattle.records.specs.declared.step.Ready.the-variants as readiness
 use Rattle.records.specs.declared.step.Verdict.{Verdict}
 use Rattle.records.specs.Answer.{answer-bytes}
-use Rattle.records.specs.Read.{float-at, state-at, attitude-command, waypoint-command, absolute-attitude-command, land-command, absolute-rate-command}
-use Rattle.records.specs.Step.{configured, lowest, time-step-ok, heading-ok, marks-ok, refuse, setpoint-answer, guided, configure, prime-record, checked, called, attitude-record, waypoint-record, absolute-attitude-record, land-record, absolute-rate-record, rate-record, wind-answer, wind-record, of-kind, body-length, Outcome, answered, reported, with-kind, step}
 use Rattle.records.specs.Craft.{unconfigured}
+use Rattle.records.specs.Read.{float-at, state-at, attitude-command, waypoint-command, absolute-attitude-command, land-command, absolute-rate-command}
+use Rattle.records.specs.Step.{configured, lowest, time-step-ok, heading-ok, marks-ok, refuse, setpoint-answer, guided, configure, prime-record, checked, made, called, rate-record, wind-answer, wind-record, of-kind, body-length, Outcome, answered, reported, with-kind, step}
 use Rattle.records.specs.Feed.{Entry, reply, outcome, after, replies, Link, Fed, given-back, port-replies, kind-of, body-of, is-refusal, Ending, heading-of, Priming, fresh-guidance, made-fresh, reset-guidance, reset, heading-held, wind-held, above-ground, SameWind, WholeFeeds}
 
 -- ---- crafts that differ in no more than what cannot be read
@@ -66,6 +68,15 @@ call-same g h dt state call e =
     call-from-norm g dt state call
     ∙ ap (λ (n : CopterGuidance). norm-guided (guide n dt state call)) e
     ∙ sym (call-from-norm h dt state call)
+
+made-same : (g h : CopterGuidance) (dt : Float) (state : VehicleState) (command : Command) → norm-craft g ≡ norm-craft h
+    → norm-guided (made command g dt state) ≡ norm-guided (made command h dt state)
+unfolding made
+made-same g h dt state (commands.Attitude c) e = call-same g h dt state (calls.piloted (attitude c)) e
+made-same g h dt state (commands.Waypoint c) e = call-same g h dt state (calls.navigated (waypoint c)) e
+made-same g h dt state (commands.AbsoluteAttitude c) e = call-same g h dt state (calls.piloted (absolute-attitude c)) e
+made-same g h dt state (commands.Land c) e = call-same g h dt state (calls.navigated (land c)) e
+made-same g h dt state (commands.AbsoluteRate c) e = call-same g h dt state (calls.piloted (absolute-rate c)) e
 
 prime-same : (g h : CopterGuidance) (state : VehicleState) → norm-craft g ≡ norm-craft h → prime g state ≡ prime h state
 prime-same g h state e = prime-from-norm g state ∙ ap (λ (n : CopterGuidance). prime n state) e ∙ sym (prime-from-norm h state)
@@ -107,49 +118,43 @@ module _ (c d : Craft) (a : Alike (c .guidance) (d .guidance)) (body : List ℕ)
   wind-record-same (Configured g) Unconfigured e = absurd e
   wind-record-same (Configured g) (Configured h) e = record { same-answer = ap wind-answer (wind-same g h e); alike = a }
 
-  checked-same : (g h : CopterGuidance) → norm-craft g ≡ norm-craft h → (call : Call) (unmarked late headed : Bool)
+  checked-same : (g h : CopterGuidance) → norm-craft g ≡ norm-craft h → (command : Command) (unmarked late headed : Bool)
       → SameVerdict
       (called
       (cond unmarked (readiness.Refused Mark)
       (cond late (readiness.Refused TimeStep) (cond headed (readiness.Call g (float-at body 0) (state-at body 4)) (readiness.Refused Heading))))
-      c
-      (λ (g : CopterGuidance) (dt : Float) (state : VehicleState). guide g dt state call))
+      c command)
       (called
       (cond unmarked (readiness.Refused Mark)
       (cond late (readiness.Refused TimeStep) (cond headed (readiness.Call h (float-at body 0) (state-at body 4)) (readiness.Refused Heading))))
-      d
-      (λ (g : CopterGuidance) (dt : Float) (state : VehicleState). guide g dt state call))
+      d command)
   unfolding called
-  checked-same g h e call true late headed = refused-same Mark
-  checked-same g h e call false true headed = refused-same TimeStep
-  checked-same g h e call false false false = refused-same Heading
-  checked-same g h e call false false true = guided-same _ _ (call-same g h (float-at body 0) (state-at body 4) call e)
+  checked-same g h e command true late headed = refused-same Mark
+  checked-same g h e command false true headed = refused-same TimeStep
+  checked-same g h e command false false false = refused-same Heading
+  checked-same g h e command false false true = guided-same _ _ (made-same g h (float-at body 0) (state-at body 4) command e)
 
-  called-same : (g h : Guidance) → Alike g h → (marks : Bool) (call : Call)
-      → SameVerdict (called (checked g body marks) c (λ (g : CopterGuidance) (dt : Float) (state : VehicleState). guide g dt state call))
-      (called (checked h body marks) d (λ (g : CopterGuidance) (dt : Float) (state : VehicleState). guide g dt state call))
+  called-same : (g h : Guidance) → Alike g h → (marks : Bool) (command : Command)
+      → SameVerdict (called (checked g body marks) c command) (called (checked h body marks) d command)
   unfolding checked called
-  called-same Unconfigured Unconfigured e marks call = refused-same NotConfigured
-  called-same Unconfigured (Configured h) e marks call = absurd e
-  called-same (Configured g) Unconfigured e marks call = absurd e
-  called-same (Configured g) (Configured h) e marks call =
-      checked-same g h e call (not marks) (not (time-step-ok (float-at body 0))) (heading-ok (state-at body 4 .«heading_rad»))
+  called-same Unconfigured Unconfigured e marks command = refused-same NotConfigured
+  called-same Unconfigured (Configured h) e marks command = absurd e
+  called-same (Configured g) Unconfigured e marks command = absurd e
+  called-same (Configured g) (Configured h) e marks command =
+      checked-same g h e command (not marks) (not (time-step-ok (float-at body 0))) (heading-ok (state-at body 4 .«heading_rad»))
 
   of-kind-same : (kind : ℕ) → SameVerdict (of-kind kind c body) (of-kind kind d body)
-  unfolding of-kind attitude-record waypoint-record absolute-attitude-record land-record absolute-rate-record
+  unfolding of-kind
   of-kind-same kind =
-      let by-call : (marks : Bool) (call : Call)
-      → SameVerdict (called (checked (c .guidance) body marks) c (λ (g : CopterGuidance) (dt : Float) (state : VehicleState). guide g dt state call))
-      (called (checked (d .guidance) body marks) d (λ (g : CopterGuidance) (dt : Float) (state : VehicleState). guide g dt state call)) =
-      called-same (c .guidance) (d .guidance) a in
+      let by-call = called-same (c .guidance) (d .guidance) a in
       either-same (eqb kind 1) configure-same
       (either-same (eqb kind 2) (prime-record-same (c .guidance) (d .guidance) a)
-      (either-same (eqb kind 3) (by-call true (calls.piloted (attitude (attitude-command body))))
+      (either-same (eqb kind 3) (by-call true (commands.Attitude (attitude-command body)))
       (either-same (eqb kind 4) (rate-record-same (c .guidance) (d .guidance) a)
-      (either-same (eqb kind 5) (by-call (marks-ok body) (calls.navigated (waypoint (waypoint-command body))))
-      (either-same (eqb kind 6) (by-call true (calls.piloted (absolute-attitude (absolute-attitude-command body))))
-      (either-same (eqb kind 7) (by-call true (calls.navigated (land (land-command body))))
-      (either-same (eqb kind 8) (by-call true (calls.piloted (absolute-rate (absolute-rate-command body))))
+      (either-same (eqb kind 5) (by-call (marks-ok body) (commands.Waypoint (waypoint-command body)))
+      (either-same (eqb kind 6) (by-call true (commands.AbsoluteAttitude (absolute-attitude-command body)))
+      (either-same (eqb kind 7) (by-call true (commands.Land (land-command body)))
+      (either-same (eqb kind 8) (by-call true (commands.AbsoluteRate (absolute-rate-command body)))
       (wind-record-same (c .guidance) (d .guidance) a))))))))
 
 -- ---- each entry and each list
@@ -268,41 +273,35 @@ float-at-fits : (body : List ℕ) (at : ℕ) → T (fits binary32 (float-at body
 unfolding float-at
 float-at-fits body at = ofBits-fits binary32 _
 
-module _ (heading : Float) (c : Craft) (body : List ℕ) (call : CopterGuidance → Float → VehicleState → Guided)
-    (leaves : (g : CopterGuidance) → Forgot heading (Configured (call g (float-at body 0) (state-at body 4) .craft))) where
+module _ (heading : Float) (c : Craft) (body : List ℕ) (command : Command)
+    (leaves : (g : CopterGuidance) → Forgot heading (Configured (made command g (float-at body 0) (state-at body 4) .craft))) where
   checked-forgot : (g : CopterGuidance) (late headed : Bool)
-      → taken-on
-      (called (cond late (readiness.Refused TimeStep) (cond headed (readiness.Call g (float-at body 0) (state-at body 4)) (readiness.Refused Heading))) c call
-      .answer)
-      → Forgot heading
-      (called (cond late (readiness.Refused TimeStep) (cond headed (readiness.Call g (float-at body 0) (state-at body 4)) (readiness.Refused Heading))) c call
-      .craft .guidance)
+      → taken-on (called (cond late (readiness.Refused TimeStep) (cond headed (readiness.Call g (float-at body 0) (state-at body 4)) (readiness.Refused Heading))) c command .answer)
+      → Forgot heading (called (cond late (readiness.Refused TimeStep) (cond headed (readiness.Call g (float-at body 0) (state-at body 4)) (readiness.Refused Heading))) c command .craft .guidance)
   unfolding called guided
   checked-forgot g true headed t = absurd t
   checked-forgot g false false t = absurd t
   checked-forgot g false true t = leaves g
 
-  called-forgot : (g : Guidance) → taken-on (called (checked g body true) c call .answer)
-      → Forgot heading (called (checked g body true) c call .craft .guidance)
+  called-forgot : (g : Guidance) → taken-on (called (checked g body true) c command .answer)
+      → Forgot heading (called (checked g body true) c command .craft .guidance)
   unfolding checked called
   called-forgot Unconfigured t = absurd t
   called-forgot (Configured g) t = checked-forgot g (not (time-step-ok (float-at body 0))) (heading-ok (state-at body 4 .«heading_rad»)) t
 
 kind-six-forgot : (c : Craft) (body : List ℕ) → taken-on (of-kind 6 c body .answer) → Forgot (heading-of 6 body) (of-kind 6 c body .craft .guidance)
-unfolding of-kind absolute-attitude-record absolute-attitude-call absolute-attitude-command
+unfolding of-kind made absolute-attitude-call absolute-attitude-command
 kind-six-forgot c body =
-    called-forgot (heading-of 6 body) c body
-    (λ (g : CopterGuidance) (dt : Float) (state : VehicleState). absolute-attitude-call g dt state (absolute-attitude-command body))
+    called-forgot (heading-of 6 body) c body (commands.AbsoluteAttitude (absolute-attitude-command body))
     (λ g. piloted-forgot (g .memory) (g .config) (float-at body 0) (state-at body 4) _ (heading-of 6 body)
     (commanded-wrapped (g .memory .«heading_rad») (heading-of 6 body) (state-at body 4 .«heading_rad») (float-at-fits body 72)))
     (c .guidance)
 
 kind-eight-forgot : (c : Craft) (body : List ℕ) → taken-on (of-kind 8 c body .answer)
     → Forgot (heading-of 8 body) (of-kind 8 c body .craft .guidance)
-unfolding of-kind absolute-rate-record absolute-rate-call
+unfolding of-kind made absolute-rate-call
 kind-eight-forgot c body =
-    called-forgot (heading-of 8 body) c body
-    (λ (g : CopterGuidance) (dt : Float) (state : VehicleState). absolute-rate-call g dt state (absolute-rate-command body))
+    called-forgot (heading-of 8 body) c body (commands.AbsoluteRate (absolute-rate-command body))
     (λ g. piloted-forgot (g .memory) (g .config) (float-at body 0) (state-at body 4) _ (heading-of 8 body)
     (estimate-wrapped (g .memory .«heading_rad») (heading-of 8 body)))
     (c .guidance)
@@ -329,16 +328,6 @@ same-wind a b e =
       same-ground = ap (λ (w : HoverWind). w .«ground_altitude_m») e;
     }
 
-grounded-prime-as-fresh : (self : HoverWind) (height : Float) (state : VehicleState) → hover.airborne self height state ≡ false
-    → hover.prime self height state ≡ hover.prime hover.fresh height state
-unfolding hover.prime hover.fresh hover.airborne hover.above
-grounded-prime-as-fresh self height state e = rw e
-
-airborne-prime-keeps : (self : HoverWind) (height : Float) (state : VehicleState) → hover.airborne self height state ≡ true
-    → hover.prime self height state ≡ self
-unfolding hover.prime
-airborne-prime-keeps self height state e = rw e
-
 -- an accepted priming of two configured crafts
 accepted-priming : (P : Craft → Craft → Type 0) (c d : Craft) (g h : CopterGuidance) (body : List ℕ)
     → P (configured (prime g (state-at body 0))) (configured (prime h (state-at body 0)))
@@ -360,7 +349,7 @@ unfolding prime-record prime new-craft fresh
 record-grounded c d body Unconfigured e t = absurd t
 record-grounded c d body (Configured g) e t =
     accepted-priming (λ (left other : Craft). SameWind (wind-held (left .guidance)) (wind-held (other .guidance))) c d g (new-craft (g .config)) body
-    (same-wind _ _ (grounded-prime-as-fresh (g .memory .wind) (g .config .guidance .«airborne_height_m») (state-at body 0) e))
+    (same-wind _ _ (prime-grounded (g .memory .wind) (g .config .guidance .«airborne_height_m») (state-at body 0) e))
     t
 
 record-airborne : (c : Craft) (body : List ℕ) (g : Guidance) → above-ground g (state-at body 0) ≡ true → taken-on (prime-record c g body .answer)
@@ -369,7 +358,7 @@ unfolding prime-record prime
 record-airborne c body Unconfigured e t = absurd t
 record-airborne c body (Configured g) e t =
     accepted-priming (λ (left other : Craft). SameWind (wind-held (left .guidance)) (g .memory .wind)) c c g g body
-    (same-wind _ _ (airborne-prime-keeps (g .memory .wind) (g .config .guidance .«airborne_height_m») (state-at body 0) e))
+    (same-wind _ _ (prime-airborne (g .memory .wind) (g .config .guidance .«airborne_height_m») (state-at body 0) e))
     t
 
 kind-two-grounded : (c : Craft) (body : List ℕ) (kind : ℕ) → kind ≡ 2 → above-ground (c .guidance) (state-at body 0) ≡ false

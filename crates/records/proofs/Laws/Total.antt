@@ -25,10 +25,11 @@ use Rattle.records.specs.declared.craft.Craft.{Craft}
 use Rattle.records.specs.declared.answer.Answer.{Answer}
 use Rattle.records.specs.declared.answer.Answer.the-variants.{Attitude, BodyRate, Refused, Done, NoWind, Wind}
 use Rattle.records.specs.declared.answer.Refusal.the-variants.{TimeStep, Heading}
+use Rattle.records.specs.declared.step.Command.{Command}
 use Rattle.records.specs.declared.step.Ready.the-variants as readiness
 use Rattle.records.specs.declared.step.Verdict.{Verdict}
 use Rattle.records.specs.Read.{byte-at, float-at, state-at}
-use Rattle.records.specs.Step.{Outcome, lowest, time-step-ok, heading-ok, marks-ok, setpoint-answer, guided, configure, prime-record, checked, called, attitude-record, waypoint-record, absolute-attitude-record, land-record, absolute-rate-record, rate-record, wind-answer, wind-record, of-kind, body-length, answered, with-kind, step}
+use Rattle.records.specs.Step.{Outcome, lowest, time-step-ok, heading-ok, marks-ok, setpoint-answer, guided, configure, prime-record, checked, made, called, rate-record, wind-answer, wind-record, of-kind, body-length, answered, with-kind, step}
 
 -- ---- what is accepted
 
@@ -117,20 +118,20 @@ prime-accepted craft Unconfigured body = refl
 prime-accepted craft (Configured g) body = accepted-if (heading-ok (state-at body 0 .«heading_rad»)) _ _ refl refl
 
 -- the last two checks of a call
-checks-accepted : (t h : Bool) (craft : Craft) (g : CopterGuidance) (dt : Float) (state : VehicleState) (call : CopterGuidance → Float → VehicleState → Guided) →
-    ok (called (cond (not t) (readiness.Refused TimeStep) (cond h (readiness.Call g dt state) (readiness.Refused Heading))) craft call) ≡ t && h
+checks-accepted : (t h : Bool) (craft : Craft) (g : CopterGuidance) (dt : Float) (state : VehicleState) (command : Command) →
+    ok (called (cond (not t) (readiness.Refused TimeStep) (cond h (readiness.Call g dt state) (readiness.Refused Heading))) craft command) ≡ t && h
 unfolding called
-checks-accepted false h craft g dt state call = refl
-checks-accepted true false craft g dt state call = refl
-checks-accepted true true craft g dt state call = guided-accepted (call g dt state)
+checks-accepted false h craft g dt state command = refl
+checks-accepted true false craft g dt state command = refl
+checks-accepted true true craft g dt state command = guided-accepted (made command g dt state)
 
-call-accepted : (craft : Craft) (guidance : Guidance) (body : List ℕ) (marks : Bool) (call : CopterGuidance → Float → VehicleState → Guided) →
-    ok (called (checked guidance body marks) craft call) ≡ call-ok guidance marks body
+call-accepted : (craft : Craft) (guidance : Guidance) (body : List ℕ) (marks : Bool) (command : Command) →
+    ok (called (checked guidance body marks) craft command) ≡ call-ok guidance marks body
 unfolding checked called
-call-accepted craft Unconfigured body marks call = refl
-call-accepted craft (Configured g) body false call = refl
-call-accepted craft (Configured g) body true call =
-    checks-accepted (time-step-ok (float-at body 0)) (heading-ok (state-at body 4 .«heading_rad»)) craft g (float-at body 0) (state-at body 4) call
+call-accepted craft Unconfigured body marks command = refl
+call-accepted craft (Configured g) body false command = refl
+call-accepted craft (Configured g) body true command =
+    checks-accepted (time-step-ok (float-at body 0)) (heading-ok (state-at body 4 .«heading_rad»)) craft g (float-at body 0) (state-at body 4) command
 
 rate-refused : (craft : Craft) (guidance : Guidance) → ok (rate-record craft guidance) ≡ false
 unfolding rate-record
@@ -147,7 +148,7 @@ wind-accepted craft Unconfigured = refl
 wind-accepted craft (Configured g) = reading-accepted (wind-reading g)
 
 of-kind-accepted : (kind : ℕ) (craft : Craft) (body : List ℕ) → ok (of-kind kind craft body) ≡ body-ok kind (craft .guidance) body
-unfolding of-kind body-ok attitude-record waypoint-record absolute-attitude-record land-record absolute-rate-record
+unfolding of-kind body-ok
 of-kind-accepted kind craft body =
     let guidance = craft .guidance in
     either (eqb kind 1) _ _ _ _ (configure-accepted craft body)

@@ -1,6 +1,7 @@
 -- `records::step::of_kind` meets its contract. Assumes nothing.
 use Prim.Native.Nat.{ℕ, _≤_}
 use mathlib.Core.Path.{_≡_, subst}
+use native.Mathlib.Omega.{arith}
 use borrow.Author.Needs.{needs}
 use borrow.Author.Tests.{ne-eqb}
 use Rattle.records.specs.Step.{of-kind, body-length}
@@ -27,13 +28,17 @@ returns-2 : tie.Need-returns-2
 unfolding of-kind
 returns-2 c = rw (c .before .if2 .taken, c .prime .ensures)
 
-attitude-requires : tie.Need-attitude-requires
+read-attitude-requires : tie.Need-read-attitude-requires
 unfolding body-length
-attitude-requires c κs = needed-by (c .if3 .taken) (c .before .before .before .before .pre)
+read-attitude-requires c κs = needed-by (c .if3 .taken) (c .before .before .before .before .pre)
+
+call-requires : tie.Need-call-requires
+unfolding body-length
+call-requires c κs = omega (arith, needed-by (c .before .if3 .taken) (c .before .before .before .before .before .pre))
 
 returns-3 : tie.Need-returns-3
 unfolding of-kind
-returns-3 c = rw (c .before .if3 .taken, c .attitude .ensures)
+returns-3 c = rw (c .before .before .if3 .taken, ← c .before .read-attitude .ensures, c .call .ensures)
 
 rate-requires : tie.Need-rate-requires
 rate-requires c κs = search needs
@@ -42,37 +47,63 @@ returns-4 : tie.Need-returns-4
 unfolding of-kind
 returns-4 c = rw (c .before .if4 .taken, c .rate .ensures)
 
-waypoint-requires : tie.Need-waypoint-requires
+read-waypoint-requires : tie.Need-read-waypoint-requires
 unfolding body-length
-waypoint-requires c κs = needed-by (c .if5 .taken) (c .before .before .before .before .before .before .pre)
+read-waypoint-requires c κs = needed-by (c .if5 .taken) (c .before .before .before .before .before .before .pre)
+
+marks-ok-requires : tie.Need-marks-ok-requires
+unfolding body-length
+marks-ok-requires c κs = needed-by (c .before .if5 .taken) (c .before .before .before .before .before .before .before .pre)
+
+call-requires-2 : tie.Need-call-requires-2
+unfolding body-length
+call-requires-2 c κs = omega (arith, needed-by (c .before .before .if5 .taken) (c .before .before .before .before .before .before .before .before .pre))
 
 returns-5 : tie.Need-returns-5
 unfolding of-kind
-returns-5 c = rw (c .before .if5 .taken, c .waypoint .ensures)
+returns-5 c =
+    rw (
+      c .before .before .before .if5 .taken,
+      ← c .before .marks-ok .ensures,
+      ← c .before .before .read-waypoint .ensures,
+      c .call2 .ensures,
+    )
 
-absolute-attitude-requires : tie.Need-absolute-attitude-requires
+read-absolute-attitude-requires : tie.Need-read-absolute-attitude-requires
 unfolding body-length
-absolute-attitude-requires c κs = needed-by (c .if6 .taken) (c .before .before .before .before .before .before .before .pre)
+read-absolute-attitude-requires c κs = needed-by (c .if6 .taken) (c .before .before .before .before .before .before .before .pre)
+
+call-requires-3 : tie.Need-call-requires-3
+unfolding body-length
+call-requires-3 c κs = omega (arith, needed-by (c .before .if6 .taken) (c .before .before .before .before .before .before .before .before .pre))
 
 returns-6 : tie.Need-returns-6
 unfolding of-kind
-returns-6 c = rw (c .before .if6 .taken, c .absolute-attitude .ensures)
+returns-6 c = rw (c .before .before .if6 .taken, ← c .before .read-absolute-attitude .ensures, c .call3 .ensures)
 
-land-requires : tie.Need-land-requires
+read-land-requires : tie.Need-read-land-requires
 unfolding body-length
-land-requires c κs = needed-by (c .if7 .taken) (c .before .before .before .before .before .before .before .before .pre)
+read-land-requires c κs = needed-by (c .if7 .taken) (c .before .before .before .before .before .before .before .before .pre)
+
+call-requires-4 : tie.Need-call-requires-4
+unfolding body-length
+call-requires-4 c κs = omega (arith, needed-by (c .before .if7 .taken) (c .before .before .before .before .before .before .before .before .before .pre))
 
 returns-7 : tie.Need-returns-7
 unfolding of-kind
-returns-7 c = rw (c .before .if7 .taken, c .land .ensures)
+returns-7 c = rw (c .before .before .if7 .taken, ← c .before .read-land .ensures, c .call4 .ensures)
 
-absolute-rate-requires : tie.Need-absolute-rate-requires
+read-absolute-rate-requires : tie.Need-read-absolute-rate-requires
 unfolding body-length
-absolute-rate-requires c κs = needed-by (c .if8 .taken) (c .before .before .before .before .before .before .before .before .before .pre)
+read-absolute-rate-requires c κs = needed-by (c .if8 .taken) (c .before .before .before .before .before .before .before .before .before .pre)
+
+call-requires-5 : tie.Need-call-requires-5
+unfolding body-length
+call-requires-5 c κs = omega (arith, needed-by (c .before .if8 .taken) (c .before .before .before .before .before .before .before .before .before .before .pre))
 
 returns-8 : tie.Need-returns-8
 unfolding of-kind
-returns-8 c = rw (c .before .if8 .taken, c .absolute-rate .ensures)
+returns-8 c = rw (c .before .before .if8 .taken, ← c .before .read-absolute-rate .ensures, c .call5 .ensures)
 
 wind-requires : tie.Need-wind-requires
 wind-requires c κs = search needs
@@ -100,17 +131,23 @@ of-kind-spec =
     returns
     prime-requires
     returns-2
-    attitude-requires
+    read-attitude-requires
+    call-requires
     returns-3
     rate-requires
     returns-4
-    waypoint-requires
+    read-waypoint-requires
+    marks-ok-requires
+    call-requires-2
     returns-5
-    absolute-attitude-requires
+    read-absolute-attitude-requires
+    call-requires-3
     returns-6
-    land-requires
+    read-land-requires
+    call-requires-4
     returns-7
-    absolute-rate-requires
+    read-absolute-rate-requires
+    call-requires-5
     returns-8
     wind-requires
     returns-9)

@@ -5,7 +5,7 @@ use oracle_parts::generate::inputs::{Inputs, KINDS, Kind};
 use oracle_parts::words::{Reader, Writer};
 
 /// The number by which crates/replay knows a function, and its name in the oracle's table.
-const PORTED: [(u8, &str); 29] = [
+const PORTED: [(u8, &str); 36] = [
     (0, "sqrtf"),
     (1, "sinf"),
     (2, "cosf"),
@@ -35,6 +35,13 @@ const PORTED: [(u8, &str); 29] = [
     (41, "derivative"),
     (42, "altitude"),
     (43, "lateral"),
+    (60, "drag_mps2"),
+    (61, "sd_along_mps"),
+    (62, "wind"),
+    (80, "wind_heading"),
+    (81, "leg_heading"),
+    (100, "tilt_for_acceleration"),
+    (101, "drag_feedforward_mps2"),
 ];
 
 /// The seed of every list of calls.
@@ -85,4 +92,22 @@ impl Ported {
 /// Appends the oracle's answer to an entry.
 pub fn answer(call: &mut Call, entry: &[u8], answers: &mut Writer) {
     call(&mut Reader::new(&entry[1..]), answers);
+}
+
+/// Whether document 01 leaves the sign of a zero in the answer to an entry open: the zero is what a min or max gives of two
+/// zeros. The oracle's README.md names the functions that can show it; `sd_along_mps` takes the max of a number and 0.
+pub fn zero_is_open(ported: Ported, entry: &[u8]) -> bool {
+    match ported.function.name {
+        "min" | "max" => words(&entry[1..]).all(is_zero),
+        "sd_along_mps" => true,
+        _ => false,
+    }
+}
+
+pub fn is_zero(word: u32) -> bool {
+    word << 1 == 0
+}
+
+pub fn words(bytes: &[u8]) -> impl Iterator<Item = u32> {
+    bytes.chunks_exact(4).map(|word| u32::from_le_bytes(word.try_into().expect("four bytes")))
 }

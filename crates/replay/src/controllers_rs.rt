@@ -3,13 +3,13 @@
 use crate::words::Counts;
 use crate::words::Given;
 use crate::words::NO_RESULT;
-use crate::words::OptionVec2;
 use crate::words::Taken;
 use crate::words::attitude;
 use crate::words::bits;
 use crate::words::float;
-use crate::words::no_vec2;
-use crate::words::some_vec2;
+use crate::words::put_some;
+use crate::words::put_some_vec2;
+use crate::words::put_vec2;
 use crate::words::vec2;
 use altitude::AltitudeController;
 use altitude::AltitudeControllerConfig;
@@ -83,8 +83,7 @@ fn rate_divider(before: RateDivider, w: &Taken, out: &mut Given) -> RateDivider 
         _ => RateDivider::reset(),
     };
     if let RateDivider::Elapsed(elapsed_s) = after {
-        out[2] = 1;
-        out[3] = bits(elapsed_s);
+        put_some(out, 2, elapsed_s);
     }
     after
 }
@@ -93,8 +92,7 @@ fn due(before: RateDivider, w: &Taken, out: &mut Given) -> RateDivider {
     let paced = before.due(float(w[1]), float(w[2]));
     let due = paced.due;
     if let Due::Step(step_s) = due {
-        out[0] = 1;
-        out[1] = bits(step_s);
+        put_some(out, 0, step_s);
     }
     paced.divider
 }
@@ -104,22 +102,19 @@ fn derivative(before: DerivativeState, w: &Taken, out: &mut Given) -> Derivative
     let mut after = DerivativeState::forget();
     if w[0] == 0 {
         let stepped = before.step(vec2(w[1], w[2]), float(w[3]));
-        out[0] = bits(stepped.derivative.x);
-        out[1] = bits(stepped.derivative.y);
+        put_vec2(out, 0, stepped.derivative);
         after = stepped.state;
     }
-    let previous = history(after);
-    out[2] = previous.flag;
-    out[3] = previous.x;
-    out[4] = previous.y;
+    put_history(after, out, 2);
     after
 }
 
-fn history(state: DerivativeState) -> OptionVec2 {
-    let DerivativeState::Previous(error) = state else {
-        return no_vec2();
-    };
-    some_vec2(error)
+fn put_history(state: DerivativeState, out: &mut Given, at: usize)
+    requires { ⌜ at ≤ 17 ⌝ }
+{
+    if let DerivativeState::Previous(error) = state {
+        put_some_vec2(out, at, error);
+    }
 }
 
 // The integral comes out in every call. The Rust panics unless the time step is positive and finite.
@@ -187,11 +182,10 @@ fn lateral_control(before: LateralController, w: &Taken, out: &mut Given) -> Lat
             },
             vec2(w[19], w[20]),
         );
-        out[0] = bits(call.accel_mps2.x);
-        out[1] = bits(call.accel_mps2.y);
+        put_vec2(out, 0, call.accel_mps2);
         controller = call.controller;
     }
-    lateral_memory(controller, out);
+    put_lateral(controller, out);
     controller
 }
 
@@ -214,26 +208,13 @@ fn lateral_target(w: &Taken) -> LateralTarget {
     }
 }
 
-fn lateral_memory(controller: LateralController, out: &mut Given) {
+fn put_lateral(controller: LateralController, out: &mut Given) {
+    put_vec2(out, 2, controller.integrated_error);
     let derivative = controller.derivative;
-    let previous = history(derivative);
-    let shaped_velocity = controller.shaped_velocity_mps;
-    let shaped = shaped(shaped_velocity);
-    out[2] = bits(controller.integrated_error.x);
-    out[3] = bits(controller.integrated_error.y);
-    out[4] = previous.flag;
-    out[5] = previous.x;
-    out[6] = previous.y;
-    out[7] = shaped.flag;
-    out[8] = shaped.x;
-    out[9] = shaped.y;
-    out[10] = bits(controller.commanded_velocity_mps.x);
-    out[11] = bits(controller.commanded_velocity_mps.y);
-}
-
-fn shaped(velocity: ShapedVelocity) -> OptionVec2 {
-    let ShapedVelocity::At(v) = velocity else {
-        return no_vec2();
-    };
-    some_vec2(v)
+    put_history(derivative, out, 4);
+    let shaped = controller.shaped_velocity_mps;
+    if let ShapedVelocity::At(velocity) = shaped {
+        put_some_vec2(out, 7, velocity);
+    }
+    put_vec2(out, 10, controller.commanded_velocity_mps);
 }

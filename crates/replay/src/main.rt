@@ -3,8 +3,11 @@
 // that the oracle writes. The file stdin holds a list, and the file stdout the oracle's answers.
 mod block;
 mod controllers_rs;
+mod copter_rs;
+mod heading_rs;
 mod leaves;
 mod math_rs;
+mod wind_rs;
 mod words;
 
 use block::Memory;

@@ -5,9 +5,11 @@ use crate::words::Taken;
 use crate::words::attitude;
 use crate::words::bits;
 use crate::words::float;
+use crate::words::put_some;
+use crate::words::put_vec2;
 use crate::words::vec2;
+use crate::words::vec3;
 use math::SinkGuard;
-use math::vectors::Vec3;
 ghost use Prim.Native.Nat.{_≤_};
 
 pub fn counts(function: u8) -> Counts
@@ -51,16 +53,11 @@ fn number(function: u8, w: &Taken) -> f32 {
 
 fn cap_magnitude(w: &Taken, out: &mut Given) {
     let capped = math::cap_magnitude(vec2(w[0], w[1]), float(w[2]));
-    out[0] = bits(capped.x);
-    out[1] = bits(capped.y);
+    put_vec2(out, 0, capped);
 }
 
 fn neu_to_ned(w: &Taken, out: &mut Given) {
-    let ned = math::neu_to_ned(Vec3 {
-        x: float(w[0]),
-        y: float(w[1]),
-        z: float(w[2]),
-    });
+    let ned = math::neu_to_ned(vec3(w[0], w[1], w[2]));
     out[0] = bits(ned.x);
     out[1] = bits(ned.y);
     out[2] = bits(ned.z);
@@ -69,7 +66,6 @@ fn neu_to_ned(w: &Taken, out: &mut Given) {
 fn guard_sink(w: &Taken, out: &mut Given) {
     let guarded = math::guard_sink(float(w[0]), float(w[1]), float(w[2]), float(w[3]));
     if let SinkGuard::Raised(thrust) = guarded {
-        out[0] = 1;
-        out[1] = bits(thrust);
+        put_some(out, 0, thrust);
     }
 }

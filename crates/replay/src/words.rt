@@ -1,6 +1,7 @@
 // Words: 32 bits each, low byte first, either the bits of a float or a whole number.
 use math::vectors::Quaternion;
 use math::vectors::Vec2;
+use math::vectors::Vec3;
 ghost use mathlib.Core.Path.{_≡_};
 ghost use Prim.Native.Nat.{_+_, _*_, _≤_};
 ghost use lib.ListN.{length};
@@ -13,13 +14,6 @@ pub type Given = [u32; 20];
 
 // How many words a function takes and gives; 0 where there is no such function.
 pub struct Counts(pub usize, pub usize);
-
-// A flag and two floats, as words. All are 0 where the flag is.
-pub struct OptionVec2 {
-    pub flag: u32,
-    pub x: u32,
-    pub y: u32,
-}
 
 // Stands for a result that the Rust does not give, since it would panic.
 pub const NO_RESULT: u32 = 4294967295;
@@ -49,20 +43,34 @@ pub fn attitude(w: u32, i: u32, j: u32, k: u32) -> Quaternion {
     }
 }
 
-pub fn no_vec2() -> OptionVec2 {
-    OptionVec2 {
-        flag: 0,
-        x: 0,
-        y: 0,
+pub fn vec3(x: u32, y: u32, z: u32) -> Vec3 {
+    Vec3 {
+        x: float(x),
+        y: float(y),
+        z: float(z),
     }
 }
 
-pub fn some_vec2(v: Vec2) -> OptionVec2 {
-    OptionVec2 {
-        flag: 1,
-        x: bits(v.x),
-        y: bits(v.y),
-    }
+pub fn put_vec2(out: &mut Given, at: usize, v: Vec2)
+    requires { ⌜ at ≤ 18 ⌝ }
+{
+    out[at] = bits(v.x);
+    out[at + 1] = bits(v.y);
+}
+
+// A flag and the value. Where there is none, the words stay 0.
+pub fn put_some(out: &mut Given, at: usize, x: f32)
+    requires { ⌜ at ≤ 18 ⌝ }
+{
+    out[at] = 1;
+    out[at + 1] = bits(x);
+}
+
+pub fn put_some_vec2(out: &mut Given, at: usize, v: Vec2)
+    requires { ⌜ at ≤ 17 ⌝ }
+{
+    out[at] = 1;
+    put_vec2(out, at + 1, v);
 }
 
 fn word(b0: u8, b1: u8, b2: u8, b3: u8) -> u32 {

@@ -16,8 +16,8 @@ abbrev μ-loop : tie.MeasureT-loop
 loop-holds : tie.Need-loop-holds Inv-loop μ-loop
 loop-holds c = search needs
 
-shared-slice-read-function : tie.Need-shared-slice-read-function Inv-loop μ-loop
-shared-slice-read-function c = search needs
+shared-slice-read-counts : tie.Need-shared-slice-read-counts Inv-loop μ-loop
+shared-slice-read-counts c = search needs
 
 counts-requires : tie.Need-counts-requires Inv-loop μ-loop
 counts-requires c κs = search needs
@@ -49,17 +49,8 @@ mul-full c = search needs
 add-full : tie.Need-add-full Inv-loop μ-loop
 add-full c = search needs
 
-add-load : tie.Need-add-load Inv-loop μ-loop
-add-load c = search needs
-
-load-requires : tie.Need-load-requires Inv-loop μ-loop
-load-requires c κs = search needs
-
-answer-requires : tie.Need-answer-requires Inv-loop μ-loop
-answer-requires c κs = search needs
-
-store-requires : tie.Need-store-requires Inv-loop μ-loop
-store-requires c κs = search needs
+answered-requires : tie.Need-answered-requires Inv-loop μ-loop
+answered-requires c κs = search needs
 
 loop-less : tie.Need-loop-less Inv-loop μ-loop
 loop-less c = search needs
@@ -98,7 +89,7 @@ replay-spec =
     Inv-loop
     μ-loop
     loop-holds
-    shared-slice-read-function
+    shared-slice-read-counts
     counts-requires
     sub-if2
     mul-if2
@@ -109,10 +100,7 @@ replay-spec =
     add-next-2
     mul-full
     add-full
-    add-load
-    load-requires
-    answer-requires
-    store-requires
+    answered-requires
     loop-less
     loop-again
     same-length

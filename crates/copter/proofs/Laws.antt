@@ -9,6 +9,7 @@ pub mod Answers
 pub mod Heading
 pub mod Navigation
 pub mod Piloted
+pub mod Wind
 -- Over any list of operations.
 pub mod Norm
 pub mod Reached

@@ -1,3 +1,6 @@
 -- Laws of the definitions of specs/.
 pub mod Total
 pub mod Feed
+pub mod Links
+pub mod Examples
+pub mod Worked

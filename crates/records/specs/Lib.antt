@@ -4,3 +4,4 @@ pub mod Craft
 pub mod Read
 pub mod Step
 pub mod Feed
+pub mod Worked

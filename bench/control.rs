@@ -1,8 +1,10 @@
-//! Times the port's wrap, altitude control and lateral control beside the Rust's: one driver, the same inputs, ratios.
+//! Times the port's wrap, altitude control, lateral control, wind update and leg heading beside the Rust's: one driver, the
+//! same inputs, ratios.
 //!
 //! Both sides read the numbers of a call from an array and keep their memory from call to call. Their answers are compared
 //! first.
 
+mod heading;
 mod timing;
 
 use std::hint::black_box;
@@ -11,6 +13,7 @@ use stable_flight::controllers::{
     AltitudeController, AltitudeControllerConfig, AltitudeEstimate, AltitudeTarget, Gains, LateralController,
     LateralControllerConfig, LateralEstimate, LateralTarget,
 };
+use stable_flight::guidance::copter::CopterGuidanceConfig;
 use stable_flight::nalgebra::{Quaternion, UnitQuaternion};
 use stable_flight::{Vec2, wrap_angle};
 
@@ -129,4 +132,12 @@ fn main() {
     time_lateral("lateral control, shaping off", &calls(&braking, &sizes));
     let shaping = [0.5, 1.26, 0.4, 0.0, 12.5, 3.0, 0.0, 0.5, 0.015625];
     time_lateral("lateral control, shaping on", &calls(&shaping, &sizes));
+    // Steps of 1/64 s, of which every thirteenth closes a window, and steps that each close one.
+    heading::time_wind("wind update", &heading::hover(0.015625));
+    heading::time_wind("wind update, a window a step", &heading::hover(0.25));
+    // The default configuration, and then with a wingtip in the wind on station.
+    let config = CopterGuidanceConfig::default();
+    heading::time_legs("leg heading", &config);
+    let config = CopterGuidanceConfig { wind_heading_min_mps: 2.0, ..config };
+    heading::time_legs("leg heading, wingtip in the wind", &config);
 }

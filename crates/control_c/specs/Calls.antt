@@ -7,6 +7,7 @@ use lib.Ieee.{Float, nan, eq}
 use Rattle.math.specs.Math.{zero, one}
 use Rattle.math.specs.Vectors.{zeros}
 use Rattle.math.specs.declared.vectors.Vec2.{Vec2}
+use Rattle.math.specs.declared.vectors.Vec3.{Vec3}
 use Rattle.controllers.specs.declared.derivative.DerivativeState.{DerivativeState}
 use Rattle.controllers.specs.declared.derivative.DerivativeState.the-variants.{Empty, Previous}
 use Rattle.altitude.specs.Altitude.{control as altitude-control}
@@ -16,14 +17,30 @@ use Rattle.lateral.specs.declared.ShapedVelocity.{ShapedVelocity}
 use Rattle.lateral.specs.declared.ShapedVelocity.the-variants.{Nothing, At}
 use Rattle.lateral.specs.declared.LateralController.{LateralController}
 use Rattle.lateral.specs.declared.LateralControl.{LateralControl}
+use Rattle.wind.specs.declared.state.VehicleState.{VehicleState}
 use Rattle.control_c.specs.declared.memory.Held.{Held}
 
 -- the number at a place of an array, and the vector at two places
-abbrev at : List Float → ℕ → Float
+abbrev pub at : List Float → ℕ → Float
 at l k = getD l k nan
 
-abbrev vec2 : List Float → ℕ → ℕ → Vec2
+abbrev pub vec2 : List Float → ℕ → ℕ → Vec2
 vec2 l x y = record { x = at l x; y = at l y }
+
+abbrev vec3 : List Float → ℕ → ℕ → ℕ → Vec3
+vec3 l x y z = record { x = at l x; y = at l y; z = at l z }
+
+-- A state: position, velocity, acceleration, attitude, yaw rate and heading.
+abbrev pub state : List Float → VehicleState
+state l =
+    record {
+      «position_m» = vec3 l 0 1 2;
+      «velocity_mps» = vec3 l 3 4 5;
+      «acceleration_mps2» = vec3 l 6 7 8;
+      attitude = record { w = at l 9; i = at l 10; j = at l 11; k = at l 12 };
+      «angular_velocity_z_radps» = at l 13;
+      «heading_rad» = at l 14;
+    }
 
 -- Altitude control from an integral. The array holds fields 1 to 6, dt, the target's altitude and climb, the estimate's, and the attitude.
 abbrev pub altitude-call : Float → List Float → AltitudeControl

@@ -1,6 +1,9 @@
-// Wrap, altitude control and lateral control under C names, for the driver of bench/, which is not in
-// Rattle. The specs say what stands where in an array.
+// Wrap, altitude control, lateral control, a wind update and a step of the leg's heading under C names,
+// for the driver of bench/, which is not in Rattle. The specs say what stands where in an array.
+mod hover_wind;
+mod leg_heading;
 mod memory;
+mod state;
 
 use altitude::AltitudeControl;
 use altitude::AltitudeController;

@@ -28,8 +28,21 @@ fn time<T>(list: &[T], passes: usize, call: &mut impl FnMut(&T)) -> f64 {
     start.elapsed().as_secs_f64()
 }
 
-/// Prints the ratio of the port's time to the reference's.
-pub fn compare<T>(name: &str, list: &[T], passes: usize, mut port: impl FnMut(&T), mut reference: impl FnMut(&T)) {
+/// Prints the ratio of the port's time to the reference's, for a list of calls.
+#[allow(dead_code)]
+pub fn compare<T>(name: &str, list: &[T], passes: usize, port: impl FnMut(&T), reference: impl FnMut(&T)) {
+    compare_each(name, list, passes, 1, port, reference);
+}
+
+/// The same where each item of the list stands for so many calls.
+pub fn compare_each<T>(
+    name: &str,
+    list: &[T],
+    passes: usize,
+    calls_each: usize,
+    mut port: impl FnMut(&T),
+    mut reference: impl FnMut(&T),
+) {
     let mut rounds: Vec<(f64, f64)> = (0..ROUNDS)
         .map(|_| {
             let theirs = time(list, passes, &mut reference);
@@ -39,7 +52,7 @@ pub fn compare<T>(name: &str, list: &[T], passes: usize, mut port: impl FnMut(&T
         .collect();
     rounds.sort_by(|a, b| a.0.total_cmp(&b.0));
     let ratio = rounds[ROUNDS / 2].0;
-    let calls = (passes * list.len()) as f64;
+    let calls = (passes * list.len() * calls_each) as f64;
     let least = rounds.iter().map(|r| r.1).fold(f64::INFINITY, f64::min);
     println!("{name:34} {ratio:5.2}   (reference {:.1} ns a call)", least / calls * 1e9);
 }

@@ -1,7 +1,7 @@
 //! Feeds the port's program and the oracle the same calls, in batches, and compares their answers word by word.
 
 use std::io::{self, Read, Write};
-use std::process::{Child, ChildStdin, Command, Stdio};
+use std::process::{Child, ChildStdin, ChildStdout, Command, Stdio};
 use std::sync::mpsc::{SyncSender, sync_channel};
 use std::thread;
 
@@ -56,10 +56,7 @@ fn compare(
     calls: u64,
     tally: &mut Tally,
 ) -> io::Result<()> {
-    let mut child =
-        Command::new(command[0]).args(&command[1..]).stdin(Stdio::piped()).stdout(Stdio::piped()).spawn()?;
-    let stdin = child.stdin.take().expect("it is piped");
-    let mut stdout = child.stdout.take().expect("it is piped");
+    let (child, stdin, mut stdout) = start(command)?;
     let (sender, batches) = sync_channel(WAITING);
     let feeder = thread::spawn(move || feed(stdin, ported, kind, calls, sender));
     let mut call = (ported.function.start)();
@@ -95,8 +92,16 @@ fn feed(mut stdin: ChildStdin, ported: Ported, kind: Kind, calls: u64, sender: S
     Ok(())
 }
 
+/// Starts the program, and gives its input and output.
+pub fn start(command: &[&str]) -> io::Result<(Child, ChildStdin, ChildStdout)> {
+    let mut child =
+        Command::new(command[0]).args(&command[1..]).stdin(Stdio::piped()).stdout(Stdio::piped()).spawn()?;
+    let (stdin, stdout) = (child.stdin.take(), child.stdout.take());
+    Ok((child, stdin.expect("it is piped"), stdout.expect("it is piped")))
+}
+
 /// The program has to have written nothing more, and to end well.
-fn finish(mut child: Child, stdout: &mut impl Read) -> io::Result<()> {
+pub fn finish(mut child: Child, stdout: &mut impl Read) -> io::Result<()> {
     let mut more = Vec::new();
     stdout.read_to_end(&mut more)?;
     if !more.is_empty() || !child.wait()?.success() {
@@ -136,7 +141,7 @@ fn difference(place: &str, entry: &[u8], ours: &[u8], theirs: &[u8]) -> String {
 }
 
 /// A 64-bit mixing step (splitmix64).
-fn mix(mut z: u64) -> u64 {
+pub fn mix(mut z: u64) -> u64 {
     z = z.wrapping_add(0x9e37_79b9_7f4a_7c15);
     z = (z ^ (z >> 30)).wrapping_mul(0xbf58_476d_1ce4_e5b9);
     z = (z ^ (z >> 27)).wrapping_mul(0x94d0_49bb_1331_11eb);

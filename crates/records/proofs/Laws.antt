@@ -2,5 +2,7 @@
 pub mod Total
 pub mod Feed
 pub mod Links
+pub mod Counts
+pub mod Flight
 pub mod Examples
 pub mod Worked

@@ -4,4 +4,5 @@ pub mod Craft
 pub mod Read
 pub mod Step
 pub mod Feed
+pub mod Flight
 pub mod Worked

@@ -112,8 +112,8 @@ output [] = []
 output (reply ∷ rest) = take (reply .written) (reply .buffer) ++ output rest
 
 -- what the program writes
-unfoldable pub flight-answers : List ℕ
-flight-answers =
+unfoldable pub worked-answers : List ℕ
+worked-answers =
     (0x04 ∷ [])  -- done
     ++ (0x04 ∷ [])  -- done
     -- the setpoint with its flags
@@ -174,4 +174,4 @@ pub record WorkedFlights : Type 0 where
   -- W10 root of 2 has bits 3FB504F3 (hexadecimal).
   pub w10 : toBits binary32 (sqrt binary32 two) ≡ 0x3FB5_04F3
   -- Run by the program, output whole.
-  pub run : output (replies unconfigured flight) ≡ flight-answers
+  pub run : output (replies unconfigured flight) ≡ worked-answers

@@ -246,7 +246,7 @@ fn wind(craft: Craft) -> Verdict
 }
 
 // How many bytes follow the kind.
-fn body_length(kind: u8) -> usize
+pub fn body_length(kind: u8) -> usize
     ensures { λ r. ⌜ r ≡ body-length kind ⌝ }
 {
     if kind == 1 {

@@ -11,7 +11,6 @@ mod wind_rs;
 mod words;
 
 use block::Memory;
-ghost use mathlib.Core.Path.{_≡_};
 ghost use Prim.Native.Nat.{_≤_};
 ghost use lib.ListN.{length};
 
@@ -21,18 +20,6 @@ struct State {
     memory: Memory,
     held: usize,
     going: bool,
-}
-
-// Moves the bytes from `from` to `end` to the start.
-fn move_down(bytes: &mut [u8], from: usize, end: usize)
-    requires { ⌜ (from ≤ end) × (end ≤ length (now bytes)) ⌝ }
-    ensures { λ r. ⌜ length (now (bytes .exit)) ≡ length (now (bytes .entry)) ⌝ }
-{
-    let mut i = from;
-    while i < end {
-        bytes[i - from] = bytes[i];
-        i += 1;
-    }
 }
 
 // Reads behind the first `held` bytes until the buffer is full or the input ends. Gives the number of
@@ -54,7 +41,7 @@ fn turn(memory: Memory, held: usize, input: &mut [u8], output: &mut [u8]) -> Sta
     let used = progress.used;
     let written = progress.written;
     io::write_all(libc::STDOUT_FILENO, &output[..written]);
-    move_down(input, used, end);
+    buffers::move_down(input, used, end);
     let memory = progress.memory;
     State {
         memory,

@@ -22,7 +22,7 @@ use Rattle.records.specs.Craft.{unconfigured}
 use Rattle.records.specs.Read.{float-at, vec3-at, state-at, guidance-config, thrust-limits, configuration, absolute-attitude-command}
 use Rattle.records.specs.Step.{lowest, time-step-ok, heading-ok, setpoint-answer, guided, configure, prime-record, checked, made, called, rate-record, of-kind, body-length, answered, with-kind, step}
 use Rattle.records.specs.Feed.{Entry, after, machine, replies, Link, Fed, given-back, port-replies, body-of, Accepted, Ending, ending-heading, Priming, reset, above-ground}
-use Rattle.records.specs.Worked.{words, sent, defaults, configuring, priming, flying, flight, output, flight-answers}
+use Rattle.records.specs.Worked.{words, sent, defaults, configuring, priming, flying, flight, output, worked-answers}
 use Rattle.records.proofs.Laws.Feed.{whole-feeds}
 
 -- a priming at a height of 2, which is more than field 36 above a ground at 0
@@ -46,11 +46,11 @@ pub record Examples : Type 0 where
   pub six-heading-finite : T (finite (ending-heading (flying 6)))
   pub ended-by-eight : Ending (machine once-primed) (flying 8)
   pub eight-heading-finite : T (finite (ending-heading (flying 8)))
-  pub flight-answered : output (replies unconfigured flight) ≡ flight-answers
+  pub flight-answered : output (replies unconfigured flight) ≡ worked-answers
 
 pub examples : Examples
 unfolding
-    output replies after flight configuring priming climbed flying words defaults flight-answers unconfigured
+    output replies after flight configuring priming climbed flying words defaults worked-answers unconfigured
     step with-kind body-length answered setpoint-bytes answer-bytes
     of-kind configure lowest prime-record heading-ok checked time-step-ok called made guided setpoint-answer rate-record
     rule among check-limit check-positive check-unit-interval check-tilt below-one above-descending up-to-pi

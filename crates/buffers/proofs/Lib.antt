@@ -1,0 +1,2 @@
+-- What the programs cite of the buffers. Assumes nothing.
+pub mod Laws

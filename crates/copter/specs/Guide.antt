@@ -19,10 +19,13 @@ use Rattle.copter.specs.declared.commands.WaypointCommand.{WaypointComma
 use Rattle.copter.specs.declared.commands.AbsoluteAttitudeCommand.{AbsoluteAttitudeCommand}
 use Rattle.copter.specs.declared.commands.LandCommand.{LandCommand}
 use Rattle.copter.specs.declared.commands.AbsoluteRateCommand.{AbsoluteRateCommand}
+use Rattle.copter.specs.declared.commands.Command.{Command}
+use Rattle.copter.specs.declared.commands.Command.the-variants as commands
 use Rattle.copter.specs.declared.commands.Setpoint.the-variants.{Attitude, BodyRate}
 use Rattle.copter.specs.declared.commands.Flags.{Flags}
 use Rattle.copter.specs.declared.config.CopterGuidanceConfig.{CopterGuidanceConfig}
 use Rattle.copter.specs.declared.memory.VerticalMemory.{VerticalMemory}
+use Rattle.copter.specs.declared.memory.LateralMemory.{LateralMemory}
 use Rattle.copter.specs.declared.memory.Memory.{Memory}
 use Rattle.copter.specs.declared.memory.CopterGuidance.{CopterGuidance}
 use Rattle.copter.specs.declared.thrust.Thrust.{Thrust}
@@ -30,6 +33,9 @@ use Rattle.copter.specs.declared.thrust.Held.{Held}
 use Rattle.copter.specs.declared.descent.Descended.{Descended}
 use Rattle.copter.specs.declared.tilt.Course.{Course}
 use Rattle.copter.specs.declared.guide.Guided.{Guided}
+use Rattle.copter.specs.declared.guide.Steered.{Steered}
+use Rattle.copter.specs.declared.guide.Plan.{Plan}
+use Rattle.copter.specs.declared.guide.Plan.the-variants as plans
 use Rattle.copter.specs.Memory.{level, upright, idled, fresh}
 use Rattle.copter.specs.Thrust.{floor-thrust, hold-piloted, hold-absolute, boosted}
 use Rattle.copter.specs.Descent.{descend-toward, land-descent}
@@ -56,16 +62,14 @@ command-heading kept commanded = cond (finite commanded) commanded kept
 unfoldable pub wind-updated : Memory → CopterGuidanceConfig → Float → VehicleState → HoverWind
 wind-updated self config dt state = hover.update (self .wind) dt (config .wind) (config .guidance .«airborne_height_m») state
 
--- What every call but waypoint and land resets: the vertical and lateral loops and the leg heading. The stored tilt and its flag stay.
+-- All of navigation reset: the vertical and lateral loops and the leg heading. The stored tilt and its flag stay.
+abbrev pub released : LateralMemory → Float → HoverWind → Memory
+released lateral heading wind =
+    record { vertical = level; lateral = idled lateral; «heading_rad» = heading; «leg_heading» = leg.fresh; wind = wind }
+
+-- what every call but waypoint and land leaves
 unfoldable pub piloted : Memory → CopterGuidanceConfig → Float → VehicleState → Float → Memory
-piloted self config dt state heading =
-    record {
-      vertical = level;
-      lateral = idled (self .lateral);
-      «heading_rad» = heading;
-      «leg_heading» = leg.fresh;
-      wind = wind-updated self config dt state;
-    }
+piloted self config dt state heading = released (self .lateral) heading (wind-updated self config dt state)
 
 -- ---- piloted calls
 
@@ -214,6 +218,33 @@ land-call self dt state command =
     leg.land-target (before .«leg_heading») dt (config .guidance .heading) (before .«heading_rad») (hover.estimate wind) state in
     let course : Course = record { «position_m» = command .«position_m»; «velocity_mps» = velocities.Nothing; «cruise_speed_mps» = zero } in
     fly-to self dt state course descended turn wind
+
+-- ---- a call with its command
+
+unfoldable pub guide-call : CopterGuidance → Float → VehicleState → Command → Guided
+guide-call self dt state (commands.Attitude command) = attitude-call self dt state command
+guide-call self dt state (commands.Waypoint command) = waypoint-call self dt state command
+guide-call self dt state (commands.AbsoluteAttitude command) = absolute-attitude-call self dt state command
+guide-call self dt state (commands.Land command) = land-call self dt state command
+guide-call self dt state (commands.AbsoluteRate command) = absolute-rate-call self dt state command
+
+-- what a piloted call answers, and the heading target that it leaves
+unfoldable pub steered : Guided → Steered
+steered guided = record { «heading_rad» = guided .craft .memory .«heading_rad»; setpoint = guided .setpoint; flags = guided .flags }
+
+-- a piloted call, with the wind updated
+unfoldable pub steer : CopterGuidance → Steered → HoverWind → Guided
+steer self s wind =
+    record {
+      craft = record { config = self .config; memory = released (self .memory .lateral) (s .«heading_rad») wind };
+      setpoint = s .setpoint;
+      flags = s .flags;
+    }
+
+-- what a plan gives, with the wind updated
+unfoldable pub flown : CopterGuidance → Float → VehicleState → HoverWind → Plan → Guided
+flown self dt state wind (plans.Navigated course descended turn) = fly-to self dt state course descended turn wind
+flown self dt state wind (plans.Piloted s) = steer self s wind
 
 -- ---- configure, prime and the wind reading
 

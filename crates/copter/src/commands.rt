@@ -42,6 +42,15 @@ pub struct AbsoluteRateCommand {
     pub thrust: f32,
 }
 
+// What a call is told to fly.
+pub enum Command {
+    Attitude(AttitudeCommand),
+    Waypoint(WaypointCommand),
+    AbsoluteAttitude(AbsoluteAttitudeCommand),
+    Land(LandCommand),
+    AbsoluteRate(AbsoluteRateCommand),
+}
+
 pub struct AttitudeSetpoint {
     pub roll_rad: f32,
     pub pitch_rad: f32,

@@ -1,9 +1,10 @@
-// The five calls, the priming and the wind reading.
+// The five calls, as `guide` and one by one, the priming and the wind reading.
 use crate::commands::AbsoluteAttitudeCommand;
 use crate::commands::AbsoluteRateCommand;
 use crate::commands::AttitudeCommand;
 use crate::commands::AttitudeSetpoint;
 use crate::commands::BodyRateSetpoint;
+use crate::commands::Command;
 use crate::commands::Flags;
 use crate::commands::LandCommand;
 use crate::commands::Setpoint;
@@ -27,13 +28,28 @@ use heading::leg_heading::Turn;
 use wind::state::VehicleState;
 use wind::window::Filter;
 ghost use mathlib.Core.Path.{_≡_};
-ghost use Rattle.copter.specs.Guide.{heading-target, followed-heading, wind-updated, piloted, command-heading, navigated-thrust, climb, piloted-flags, fly-to, attitude-call, absolute-attitude-call, absolute-rate-call, waypoint-call, land-call, new-craft, prime, wind-reading};
+ghost use lib.Ieee.{Float};
+ghost use Rattle.copter.specs.Guide.{heading-target, followed-heading, wind-updated, command-heading, navigated-thrust, climb, piloted-flags, fly-to, attitude-call, absolute-attitude-call, absolute-rate-call, waypoint-call, land-call, guide-call, steered, steer, flown, new-craft, prime, wind-reading};
 
 // The craft after a call, its setpoint and its flags.
 pub struct Guided {
     pub craft: CopterGuidance,
     pub setpoint: Setpoint,
     pub flags: Flags,
+}
+
+// What a piloted call answers, and the heading target that it leaves.
+pub struct Steered {
+    pub heading_rad: f32,
+    pub setpoint: Setpoint,
+    pub flags: Flags,
+}
+
+// What a command flies once the wind is updated: a course at an altitude target with the heading
+// turned, or what the pilot commands.
+pub enum Plan {
+    Navigated(Course, Descended, Turn),
+    Piloted(Steered),
 }
 
 // The heading target: wrapped; where the wrap is not finite the wrapped estimate; else kept.
@@ -65,36 +81,6 @@ fn command_heading(kept_rad: f32, commanded_rad: f32) -> f32
         return commanded_rad;
     }
     kept_rad
-}
-
-impl Memory {
-    fn wind_updated(self, config: CopterGuidanceConfig, dt: f32, state: VehicleState) -> HoverWind
-        ensures { λ r. ⌜ r ≡ wind-updated self config dt state ⌝ }
-    {
-        let wind = self.wind;
-        wind.update(dt, config.wind, config.guidance.airborne_height_m, state)
-    }
-
-    // What a piloted call starts from: the wind updated, and all of navigation reset but the stored
-    // tilt.
-    fn piloted(
-        self,
-        config: CopterGuidanceConfig,
-        dt: f32,
-        state: VehicleState,
-        heading_rad: f32,
-    ) -> Memory
-        ensures { λ r. ⌜ r ≡ piloted self config dt state «heading_rad» ⌝ }
-    {
-        let lateral = self.lateral;
-        Memory {
-            vertical: VerticalMemory::new(),
-            lateral: lateral.reset(),
-            heading_rad,
-            leg_heading: LegHeading::new(),
-            wind: self.wind_updated(config, dt, state),
-        }
-    }
 }
 
 impl CopterGuidance {
@@ -134,16 +120,89 @@ impl CopterGuidance {
         wind.estimate()
     }
 
-    // Sticks to roll, pitch, heading and thrust.
+    // A call with its command: the wind is updated first.
+    pub fn guide(self, dt: f32, state: VehicleState, command: Command) -> Guided
+        ensures { λ r. ⌜ r ≡ guide-call self dt state command ⌝ }
+    {
+        let config = self.config;
+        let before = self.memory.wind;
+        let wind = before.update(dt, config.wind, config.guidance.airborne_height_m, state);
+        let plan = self.plan(dt, state, command, wind);
+        match plan {
+            Plan::Navigated(course, descended, turn) => self.fly_to(
+                dt,
+                state,
+                course,
+                descended,
+                turn,
+                wind,
+            ),
+            Plan::Piloted(steered) => self.steer(steered, wind),
+        }
+    }
+
     pub fn attitude(self, dt: f32, state: VehicleState, command: AttitudeCommand) -> Guided
         ensures { λ r. ⌜ r ≡ attitude-call self dt state command ⌝ }
     {
+        self.guide(dt, state, Command::Attitude(command))
+    }
+
+    pub fn absolute_attitude(
+        self,
+        dt: f32,
+        state: VehicleState,
+        command: AbsoluteAttitudeCommand,
+    ) -> Guided
+        ensures { λ r. ⌜ r ≡ absolute-attitude-call self dt state command ⌝ }
+    {
+        self.guide(dt, state, Command::AbsoluteAttitude(command))
+    }
+
+    pub fn absolute_rate(self, dt: f32, state: VehicleState, command: AbsoluteRateCommand) -> Guided
+        ensures { λ r. ⌜ r ≡ absolute-rate-call self dt state command ⌝ }
+    {
+        self.guide(dt, state, Command::AbsoluteRate(command))
+    }
+
+    pub fn waypoint(self, dt: f32, state: VehicleState, command: WaypointCommand) -> Guided
+        ensures { λ r. ⌜ r ≡ waypoint-call self dt state command ⌝ }
+    {
+        self.guide(dt, state, Command::Waypoint(command))
+    }
+
+    pub fn land(self, dt: f32, state: VehicleState, command: LandCommand) -> Guided
+        ensures { λ r. ⌜ r ≡ land-call self dt state command ⌝ }
+    {
+        self.guide(dt, state, Command::Land(command))
+    }
+
+    // What a command flies.
+    fn plan(self, dt: f32, state: VehicleState, command: Command, wind: HoverWind) -> Plan
+        requires { ⌜ wind ≡ wind-updated (self .memory) (self .config) dt state ⌝ }
+        ensures { λ r. ⌜ flown self dt state wind r ≡ guide-call self dt state command ⌝ }
+    {
+        match command {
+            Command::Attitude(c) => Plan::Piloted(self.attitude_setpoint(dt, state, c)),
+            Command::Waypoint(c) => self.waypoint_leg(dt, state, c, wind),
+            Command::AbsoluteAttitude(c) => Plan::Piloted(self.absolute_attitude_setpoint(
+                state,
+                c,
+            )),
+            Command::Land(c) => self.land_leg(dt, state, c, wind),
+            Command::AbsoluteRate(c) => Plan::Piloted(self.absolute_rate_setpoint(state, c)),
+        }
+    }
+
+    // Sticks to roll, pitch, heading and thrust.
+    fn attitude_setpoint(self, dt: f32, state: VehicleState, command: AttitudeCommand) -> Steered
+        ensures { λ r. ⌜ r ≡ steered (attitude-call self dt state command) ⌝ }
+    {
         let config = self.config;
-        let before = self.memory;
+        let kept_rad = self.memory.heading_rad;
         let limits = config.thrust;
-        let turned = before.heading_rad
+        let turned = kept_rad
             + math::saturate_unit(command.yaw) * config.guidance.stick_yaw_rate_radps * dt;
-        let heading_rad = heading_target(before.heading_rad, turned, state.heading_rad);
+        let heading_rad = heading_target(kept_rad, turned, state.heading_rad);
         let held = crate::thrust::hold_piloted(
             command.throttle,
             crate::thrust::boosted(command.throttle, state.attitude, limits.max_boost_thrust),
@@ -151,11 +210,8 @@ impl CopterGuidance {
             config.guidance.idle_throttle,
             limits,
         );
-        Guided {
-            craft: CopterGuidance {
-                config,
-                memory: before.piloted(config, dt, state, heading_rad),
-            },
+        Steered {
+            heading_rad,
             setpoint: Setpoint::Attitude(AttitudeSetpoint {
                 roll_rad: math::saturate_unit(command.roll)
                     * config.guidance.max_stick_angles_rad.x,
@@ -169,24 +225,20 @@ impl CopterGuidance {
     }
 
     // Roll and pitch as commanded; the heading replaces the heading target.
-    pub fn absolute_attitude(
+    fn absolute_attitude_setpoint(
         self,
-        dt: f32,
         state: VehicleState,
         command: AbsoluteAttitudeCommand,
-    ) -> Guided
-        ensures { λ r. ⌜ r ≡ absolute-attitude-call self dt state command ⌝ }
+    ) -> Steered
+        ensures { λ r. ⌜ ((dt : Float) → r ≡ steered (absolute-attitude-call self dt state command)) ⌝ }
     {
         let config = self.config;
-        let before = self.memory;
-        let target_rad = command_heading(before.heading_rad, command.heading_rad);
-        let heading_rad = heading_target(before.heading_rad, target_rad, state.heading_rad);
+        let kept_rad = self.memory.heading_rad;
+        let target_rad = command_heading(kept_rad, command.heading_rad);
+        let heading_rad = heading_target(kept_rad, target_rad, state.heading_rad);
         let held = crate::thrust::hold_absolute(command.thrust, state.velocity_mps.z, config);
-        Guided {
-            craft: CopterGuidance {
-                config,
-                memory: before.piloted(config, dt, state, heading_rad),
-            },
+        Steered {
+            heading_rad,
             setpoint: Setpoint::Attitude(AttitudeSetpoint {
                 roll_rad: command.roll_rad,
                 pitch_rad: command.pitch_rad,
@@ -198,18 +250,14 @@ impl CopterGuidance {
     }
 
     // Rates as commanded; the heading target follows the craft.
-    pub fn absolute_rate(self, dt: f32, state: VehicleState, command: AbsoluteRateCommand) -> Guided
-        ensures { λ r. ⌜ r ≡ absolute-rate-call self dt state command ⌝ }
+    fn absolute_rate_setpoint(self, state: VehicleState, command: AbsoluteRateCommand) -> Steered
+        ensures { λ r. ⌜ ((dt : Float) → r ≡ steered (absolute-rate-call self dt state command)) ⌝ }
     {
         let config = self.config;
-        let before = self.memory;
-        let heading_rad = followed_heading(before.heading_rad, state.heading_rad);
+        let heading_rad = followed_heading(self.memory.heading_rad, state.heading_rad);
         let held = crate::thrust::hold_absolute(command.thrust, state.velocity_mps.z, config);
-        Guided {
-            craft: CopterGuidance {
-                config,
-                memory: before.piloted(config, dt, state, heading_rad),
-            },
+        Steered {
+            heading_rad,
             setpoint: Setpoint::BodyRate(BodyRateSetpoint {
                 roll_radps: command.roll_radps,
                 pitch_radps: command.pitch_radps,
@@ -220,9 +268,16 @@ impl CopterGuidance {
         }
     }
 
-    // Flies toward a waypoint.
-    pub fn waypoint(self, dt: f32, state: VehicleState, command: WaypointCommand) -> Guided
-        ensures { λ r. ⌜ r ≡ waypoint-call self dt state command ⌝ }
+    // Toward a waypoint.
+    fn waypoint_leg(
+        self,
+        dt: f32,
+        state: VehicleState,
+        command: WaypointCommand,
+        wind: HoverWind,
+    ) -> Plan
+        requires { ⌜ wind ≡ wind-updated (self .memory) (self .config) dt state ⌝ }
+        ensures { λ r. ⌜ flown self dt state wind r ≡ waypoint-call self dt state command ⌝ }
     {
         let config = self.config;
         let before = self.memory;
@@ -237,7 +292,6 @@ impl CopterGuidance {
             state.position_m.z,
             state.velocity_mps.z,
         );
-        let wind = before.wind_updated(config, dt, state);
         let leg = before.leg_heading;
         let commanded = command.heading_rad;
         let turn = leg.target_rad(
@@ -256,12 +310,13 @@ impl CopterGuidance {
             velocity_mps,
             cruise_speed_mps: command.cruise_speed_mps,
         };
-        self.fly_to(dt, state, course, descended, turn, wind)
+        Plan::Navigated(course, descended, turn)
     }
 
-    // Lands at a position, descending all the time.
-    pub fn land(self, dt: f32, state: VehicleState, command: LandCommand) -> Guided
-        ensures { λ r. ⌜ r ≡ land-call self dt state command ⌝ }
+    // Down to a position, descending all the time.
+    fn land_leg(self, dt: f32, state: VehicleState, command: LandCommand, wind: HoverWind) -> Plan
+        requires { ⌜ wind ≡ wind-updated (self .memory) (self .config) dt state ⌝ }
+        ensures { λ r. ⌜ flown self dt state wind r ≡ land-call self dt state command ⌝ }
     {
         let config = self.config;
         let before = self.memory;
@@ -275,7 +330,6 @@ impl CopterGuidance {
             state.position_m.z,
             state.velocity_mps.z,
         );
-        let wind = before.wind_updated(config, dt, state);
         let leg = before.leg_heading;
         let turn = leg.land_target_rad(
             dt,
@@ -290,7 +344,31 @@ impl CopterGuidance {
             velocity_mps: TargetVelocity::Nothing,
             cruise_speed_mps: 0.0,
         };
-        self.fly_to(dt, state, course, descended, turn, wind)
+        Plan::Navigated(course, descended, turn)
+    }
+
+    // A piloted call, with the wind updated: all of navigation is reset but the stored tilt.
+    fn steer(self, steered: Steered, wind: HoverWind) -> Guided
+        ensures { λ r. ⌜ r ≡ steer self steered wind ⌝ }
+    {
+        let config = self.config;
+        let lateral = self.memory.lateral;
+        let setpoint = steered.setpoint;
+        let flags = steered.flags;
+        Guided {
+            craft: CopterGuidance {
+                config,
+                memory: Memory {
+                    vertical: VerticalMemory::new(),
+                    lateral: lateral.reset(),
+                    heading_rad: steered.heading_rad,
+                    leg_heading: LegHeading::new(),
+                    wind,
+                },
+            },
+            setpoint,
+            flags,
+        }
     }
 
     // Flies a course at an altitude target, with the heading turned and the wind updated.

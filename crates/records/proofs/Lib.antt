@@ -1,3 +1,4 @@
 -- What the proofs share, and what the layers above cite. Assumes nothing.
 pub mod Written
+pub mod Bodies
 pub mod Laws

@@ -13,8 +13,10 @@ use Rattle.wind.specs.declared.state.VehicleState.{VehicleState}
 use Rattle.wind.specs.declared.window.Filter.{Filter}
 use Rattle.wind.specs.declared.window.Filter.the-variants as filters
 use Rattle.copter.specs.Config.{rule}
-use Rattle.copter.specs.Guide.{attitude-call, absolute-attitude-call, absolute-rate-call, waypoint-call, land-call, new-craft, prime, wind-reading}
+use Rattle.copter.specs.Guide.{guide-call, new-craft, prime, wind-reading}
 use Rattle.copter.specs.declared.memory.CopterGuidance.{CopterGuidance}
+use Rattle.copter.specs.declared.commands.Command.{Command}
+use Rattle.copter.specs.declared.commands.Command.the-variants as commands
 use Rattle.copter.specs.declared.commands.Setpoint.{Setpoint}
 use Rattle.copter.specs.declared.commands.Setpoint.the-variants as setpoints
 use Rattle.copter.specs.declared.commands.Flags.{Flags}
@@ -26,8 +28,6 @@ use Rattle.records.specs.declared.answer.Refusal.{Refusal}
 use Rattle.records.specs.declared.answer.Refusal.the-variants.{Field, TimeStep, Heading, Rate, Kind, Short, NotConfigured, Mark, NoRoom}
 use Rattle.records.specs.declared.answer.Answer.{Answer}
 use Rattle.records.specs.declared.answer.Answer.the-variants.{Attitude, BodyRate, Refused, Done, NoWind, Wind}
-use Rattle.records.specs.declared.step.Command.{Command}
-use Rattle.records.specs.declared.step.Command.the-variants as commands
 use Rattle.records.specs.declared.step.Ready.{Ready}
 use Rattle.records.specs.declared.step.Ready.the-variants as readiness
 use Rattle.records.specs.declared.step.Verdict.{Verdict}
@@ -91,17 +91,9 @@ checked (Configured g) body marks =
     (cond (not (time-step-ok dt)) (readiness.Refused TimeStep)
     (cond (heading-ok (state .«heading_rad»)) (readiness.Call g dt state) (readiness.Refused Heading)))
 
--- a call with its command
-unfoldable pub made : Command → CopterGuidance → Float → VehicleState → Guided
-made (commands.Attitude c) g dt state = attitude-call g dt state c
-made (commands.Waypoint c) g dt state = waypoint-call g dt state c
-made (commands.AbsoluteAttitude c) g dt state = absolute-attitude-call g dt state c
-made (commands.Land c) g dt state = land-call g dt state c
-made (commands.AbsoluteRate c) g dt state = absolute-rate-call g dt state c
-
 -- an accepted call's setpoint, or the refusal
 unfoldable pub called : Ready → Craft → Command → Verdict
-called (readiness.Call g dt state) craft command = guided (made command g dt state)
+called (readiness.Call g dt state) craft command = guided (guide-call g dt state command)
 called (readiness.Refused refusal) craft command = refuse craft refusal
 
 abbrev pub call-record : Craft → List ℕ → Bool → Command → Verdict

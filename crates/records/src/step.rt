@@ -3,13 +3,9 @@ use crate::answer::Answer;
 use crate::answer::Refusal;
 use crate::craft::Craft;
 use crate::craft::Guidance;
-use copter::commands::AbsoluteAttitudeCommand;
-use copter::commands::AbsoluteRateCommand;
-use copter::commands::AttitudeCommand;
+use copter::commands::Command;
 use copter::commands::Flags;
-use copter::commands::LandCommand;
 use copter::commands::Setpoint;
-use copter::commands::WaypointCommand;
 use copter::guide::Guided;
 use copter::memory::CopterGuidance;
 use wind::state::VehicleState;
@@ -17,7 +13,8 @@ use wind::window::Filter;
 ghost use mathlib.Core.Path.{_≡_};
 ghost use Prim.Native.Nat.{_≤_};
 ghost use lib.ListN.{length};
-ghost use Rattle.records.specs.Step.{lowest, time-step-ok, heading-ok, marks-ok, refuse, setpoint-answer, guided, configure, prime-record, checked, made, call-record, rate-record, wind-record, of-kind, body-length, reported, answered, step};
+ghost use Rattle.records.specs.declared.craft.Craft.{Craft};
+ghost use Rattle.records.specs.Step.{lowest, time-step-ok, heading-ok, marks-ok, refuse, setpoint-answer, guided, configure, prime-record, checked, call-record, rate-record, wind-record, of-kind, body-length, reported, answered, step};
 
 // The craft after a record, and its answer.
 pub struct Verdict {
@@ -33,13 +30,10 @@ pub struct Handled {
     pub written: usize,
 }
 
-// What a call is told to fly.
-pub enum Command {
-    Attitude(AttitudeCommand),
-    Waypoint(WaypointCommand),
-    AbsoluteAttitude(AbsoluteAttitudeCommand),
-    Land(LandCommand),
-    AbsoluteRate(AbsoluteRateCommand),
+// What a call's record orders: its command, and whether its marks are 0 or 1.
+pub struct Order {
+    pub command: Command,
+    pub marks: bool,
 }
 
 // A call whose checks have passed, with the craft, the time step and the state that it is made with,
@@ -189,19 +183,6 @@ fn guided(g: Guided) -> Verdict
     }
 }
 
-// A call with its command.
-fn made(command: Command, g: CopterGuidance, dt: f32, state: VehicleState) -> Guided
-    ensures { λ r. ⌜ r ≡ made command g dt state ⌝ }
-{
-    match command {
-        Command::Attitude(c) => g.attitude(dt, state, c),
-        Command::Waypoint(c) => g.waypoint(dt, state, c),
-        Command::AbsoluteAttitude(c) => g.absolute_attitude(dt, state, c),
-        Command::Land(c) => g.land(dt, state, c),
-        Command::AbsoluteRate(c) => g.absolute_rate(dt, state, c),
-    }
-}
-
 // A call's record: its checks, and then the call.
 fn call(craft: Craft, body: &[u8], marks: bool, command: Command) -> Verdict
     requires { ⌜ 64 ≤ length (now body) ⌝ }
@@ -210,7 +191,7 @@ fn call(craft: Craft, body: &[u8], marks: bool, command: Command) -> Verdict
     let guidance = craft.guidance;
     let ready = checked(guidance, body, marks);
     match ready {
-        Ready::Call(g, dt, state) => guided(made(command, g, dt, state)),
+        Ready::Call(g, dt, state) => guided(g.guide(dt, state, command)),
         Ready::Refused(refusal) => refuse(craft, refusal),
     }
 }
@@ -270,8 +251,48 @@ pub fn body_length(kind: u8) -> usize
     80
 }
 
+// What a record of kind 3, 5, 6, 7 or 8 orders; a waypoint alone has marks.
+fn order_of(kind: u8, body: &[u8]) -> Order
+    requires { ⌜ 3 ≤ kind ⌝ }
+    requires { ⌜ kind ≤ 8 ⌝ }
+    requires { ⌜ (kind ≡ 4 → ⊥) ⌝ }
+    requires { ⌜ body-length kind ≤ length (now body) ⌝ }
+    ensures { λ r. ⌜ ((craft : Craft) → call-record craft (now (body .entry)) (r .marks) (r .command) ≡ of-kind kind craft (now (body .entry))) ⌝ }
+{
+    if kind == 3 {
+        return Order {
+            command: Command::Attitude(crate::read::read_attitude(body)),
+            marks: true,
+        };
+    }
+    if kind == 5 {
+        return Order {
+            command: Command::Waypoint(crate::read::read_waypoint(body)),
+            marks: marks_ok(body),
+        };
+    }
+    if kind == 6 {
+        return Order {
+            command: Command::AbsoluteAttitude(crate::read::read_absolute_attitude(body)),
+            marks: true,
+        };
+    }
+    if kind == 7 {
+        return Order {
+            command: Command::Land(crate::read::read_land(body)),
+            marks: true,
+        };
+    }
+    Order {
+        command: Command::AbsoluteRate(crate::read::read_absolute_rate(body)),
+        marks: true,
+    }
+}
+
 // A record of a known kind, over its whole body.
 fn of_kind(kind: u8, craft: Craft, body: &[u8]) -> Verdict
+    requires { ⌜ 1 ≤ kind ⌝ }
+    requires { ⌜ kind ≤ 9 ⌝ }
     requires { ⌜ body-length kind ≤ length (now body) ⌝ }
     ensures { λ r. ⌜ r ≡ of-kind kind craft (now (body .entry)) ⌝ }
 {
@@ -281,30 +302,15 @@ fn of_kind(kind: u8, craft: Craft, body: &[u8]) -> Verdict
     if kind == 2 {
         return prime(craft, body);
     }
-    if kind == 3 {
-        let command = Command::Attitude(crate::read::read_attitude(body));
-        return call(craft, body, true, command);
-    }
     if kind == 4 {
         return rate(craft);
     }
-    if kind == 5 {
-        let command = Command::Waypoint(crate::read::read_waypoint(body));
-        return call(craft, body, marks_ok(body), command);
+    if kind == 9 {
+        return wind(craft);
     }
-    if kind == 6 {
-        let command = Command::AbsoluteAttitude(crate::read::read_absolute_attitude(body));
-        return call(craft, body, true, command);
-    }
-    if kind == 7 {
-        let command = Command::Land(crate::read::read_land(body));
-        return call(craft, body, true, command);
-    }
-    if kind == 8 {
-        let command = Command::AbsoluteRate(crate::read::read_absolute_rate(body));
-        return call(craft, body, true, command);
-    }
-    wind(craft)
+    let order = order_of(kind, body);
+    let command = order.command;
+    call(craft, body, order.marks, command)
 }
 
 // Handles one record: the bytes from its kind on, and the buffer that its answer is lent.

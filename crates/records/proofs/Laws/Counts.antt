@@ -13,7 +13,8 @@ use lib.Ieee.{Float}
 use Rattle.wind.specs.declared.state.VehicleState.{VehicleState}
 use Rattle.wind.specs.declared.window.Filter.{Filter}
 use Rattle.wind.specs.declared.window.Filter.the-variants as filters
-use Rattle.copter.specs.Guide.{wind-reading}
+use Rattle.copter.specs.Guide.{guide-call, wind-reading}
+use Rattle.copter.specs.declared.commands.Command.{Command}
 use Rattle.copter.specs.declared.memory.CopterGuidance.{CopterGuidance}
 use Rattle.copter.specs.declared.commands.Setpoint.{Setpoint}
 use Rattle.copter.specs.declared.commands.Setpoint.the-variants as setpoints
@@ -25,12 +26,11 @@ use Rattle.records.specs.declared.answer.Refusal.{Refusal}
 use Rattle.records.specs.declared.answer.Refusal.the-variants.{Field, TimeStep, Heading, Rate, Kind, Short, NotConfigured, Mark, NoRoom}
 use Rattle.records.specs.declared.answer.Answer.{Answer}
 use Rattle.records.specs.declared.answer.Answer.the-variants.{Attitude, BodyRate, Refused, Done, NoWind, Wind}
-use Rattle.records.specs.declared.step.Command.{Command}
 use Rattle.records.specs.declared.step.Ready.the-variants as readiness
 use Rattle.records.specs.declared.step.Verdict.{Verdict}
 use Rattle.records.specs.Answer.{setpoint-bytes, refusal-bytes, answer-bytes}
 use Rattle.records.specs.Read.{byte-at, float-at, state-at}
-use Rattle.records.specs.Step.{Outcome, lowest, time-step-ok, heading-ok, marks-ok, refuse, guided, setpoint-answer, configure, prime-record, checked, made, called, rate-record, wind-answer, wind-record, of-kind, body-length, answered, with-kind, step}
+use Rattle.records.specs.Step.{Outcome, lowest, time-step-ok, heading-ok, marks-ok, refuse, guided, setpoint-answer, configure, prime-record, checked, called, rate-record, wind-answer, wind-record, of-kind, body-length, answered, with-kind, step}
 use Rattle.records.specs.Flight.{ends-flight, cut-short}
 
 -- ---- what a record comes to
@@ -238,7 +238,7 @@ checked-goes-on : (craft : Craft) (unmarked late headed : Bool) (g : CopterGuida
 unfolding called
 checked-goes-on craft true late headed g dt state command = refl
 checked-goes-on craft false true headed g dt state command = refl
-checked-goes-on craft false false true g dt state command = let m = made command g dt state in guided-goes-on (m .craft) (m .setpoint) (m .flags)
+checked-goes-on craft false false true g dt state command = let m = guide-call g dt state command in guided-goes-on (m .craft) (m .setpoint) (m .flags)
 checked-goes-on craft false false false g dt state command = refl
 
 call-goes-on : (craft : Craft) (guidance : Guidance) (body : List ℕ) (marks : Bool) (command : Command) → GoesOn (called (checked guidance body marks) craft command)

@@ -16,11 +16,11 @@ use Rattle.heading.specs.HoverWind as hover
 use Rattle.copter.specs.Config.{below-one, above-descending, up-to-pi, among, rule}
 use Rattle.copter.specs.Thrust.{clip-thrust, floor-thrust, guarded, hold-piloted, hold-absolute}
 use Rattle.copter.specs.Memory.{fresh}
-use Rattle.copter.specs.Guide.{heading-target, command-heading, piloted-flags, absolute-attitude-call, absolute-rate-call, new-craft, prime}
+use Rattle.copter.specs.Guide.{heading-target, command-heading, piloted-flags, absolute-attitude-call, absolute-rate-call, guide-call, new-craft, prime}
 use Rattle.records.specs.Answer.{setpoint-bytes, answer-bytes}
 use Rattle.records.specs.Craft.{unconfigured}
 use Rattle.records.specs.Read.{float-at, vec3-at, state-at, guidance-config, thrust-limits, configuration, absolute-attitude-command}
-use Rattle.records.specs.Step.{lowest, time-step-ok, heading-ok, setpoint-answer, guided, configure, prime-record, checked, made, called, rate-record, of-kind, body-length, answered, with-kind, step}
+use Rattle.records.specs.Step.{lowest, time-step-ok, heading-ok, setpoint-answer, guided, configure, prime-record, checked, called, rate-record, of-kind, body-length, answered, with-kind, step}
 use Rattle.records.specs.Feed.{Entry, after, machine, replies, Link, Fed, given-back, port-replies, body-of, Accepted, Ending, ending-heading, Priming, reset, above-ground}
 use Rattle.records.specs.Worked.{words, sent, defaults, configuring, priming, flying, flight, output, worked-answers}
 use Rattle.records.proofs.Laws.Feed.{whole-feeds}
@@ -52,7 +52,7 @@ pub examples : Examples
 unfolding
     output replies after flight configuring priming climbed flying words defaults worked-answers unconfigured
     step with-kind body-length answered setpoint-bytes answer-bytes
-    of-kind configure lowest prime-record heading-ok checked time-step-ok called made guided setpoint-answer rate-record
+    of-kind configure lowest prime-record heading-ok checked time-step-ok called guide-call guided setpoint-answer rate-record
     rule among check-limit check-positive check-unit-interval check-tilt below-one above-descending up-to-pi
     float-at vec3-at state-at configuration guidance-config thrust-limits absolute-attitude-command
     new-craft fresh prime hover.fresh hover.prime hover.airborne hover.latched absolute-attitude-call absolute-rate-call command-heading heading-target piloted-flags

@@ -16,7 +16,9 @@ use Rattle.wind.specs.declared.state.VehicleState.{VehicleState}
 use Rattle.heading.specs.declared.hover_wind.HoverWind.{HoverWind}
 use Rattle.heading.proofs.Laws.HoverWind.{prime-grounded, prime-airborne}
 use Rattle.copter.specs.Memory.{fresh}
-use Rattle.copter.specs.Guide.{heading-target, followed-heading, command-heading, piloted, absolute-attitude-call, absolute-rate-call, new-craft, prime, wind-reading}
+use Rattle.copter.specs.Guide.{heading-target, followed-heading, command-heading, piloted, absolute-attitude-call, absolute-rate-call, guide-call, new-craft, prime, wind-reading}
+use Rattle.copter.specs.declared.commands.Command.{Command}
+use Rattle.copter.specs.declared.commands.Command.the-variants as commands
 use Rattle.copter.specs.declared.config.CopterGuidanceConfig.{CopterGuidanceConfig}
 use Rattle.copter.specs.declared.memory.Memory.{Memory}
 use Rattle.copter.specs.declared.memory.CopterGuidance.{CopterGuidance}
@@ -31,14 +33,12 @@ use Rattle.records.specs.declared.answer.Refusal.{Refusal}
 use Rattle.records.specs.declared.answer.Refusal.the-variants.{Field, TimeStep, Heading, Rate, Kind, Short, NotConfigured, Mark, NoRoom}
 use Rattle.records.specs.declared.answer.Answer.{Answer}
 use Rattle.records.specs.declared.answer.Answer.the-variants.{Done}
-use Rattle.records.specs.declared.step.Command.{Command}
-use Rattle.records.specs.declared.step.Command.the-variants as commands
 use Rattle.records.specs.declared.step.Ready.the-variants as readiness
 use Rattle.records.specs.declared.step.Verdict.{Verdict}
 use Rattle.records.specs.Answer.{answer-bytes}
 use Rattle.records.specs.Craft.{unconfigured}
 use Rattle.records.specs.Read.{float-at, state-at, attitude-command, waypoint-command, absolute-attitude-command, land-command, absolute-rate-command}
-use Rattle.records.specs.Step.{configured, lowest, time-step-ok, heading-ok, marks-ok, refuse, setpoint-answer, guided, configure, prime-record, checked, made, called, rate-record, wind-answer, wind-record, of-kind, body-length, Outcome, answered, reported, with-kind, step}
+use Rattle.records.specs.Step.{configured, lowest, time-step-ok, heading-ok, marks-ok, refuse, setpoint-answer, guided, configure, prime-record, checked, called, rate-record, wind-answer, wind-record, of-kind, body-length, Outcome, answered, reported, with-kind, step}
 use Rattle.records.specs.Feed.{Entry, reply, outcome, after, replies, Link, Fed, given-back, port-replies, kind-of, body-of, is-refusal, Ending, heading-of, Priming, fresh-guidance, made-fresh, reset-guidance, reset, heading-held, wind-held, above-ground, SameWind, WholeFeeds}
 
 -- ---- crafts that differ in no more than what cannot be read
@@ -69,14 +69,14 @@ call-same g h dt state call e =
     ∙ ap (λ (n : CopterGuidance). norm-guided (guide n dt state call)) e
     ∙ sym (call-from-norm h dt state call)
 
-made-same : (g h : CopterGuidance) (dt : Float) (state : VehicleState) (command : Command) → norm-craft g ≡ norm-craft h
-    → norm-guided (made command g dt state) ≡ norm-guided (made command h dt state)
-unfolding made
-made-same g h dt state (commands.Attitude c) e = call-same g h dt state (calls.piloted (attitude c)) e
-made-same g h dt state (commands.Waypoint c) e = call-same g h dt state (calls.navigated (waypoint c)) e
-made-same g h dt state (commands.AbsoluteAttitude c) e = call-same g h dt state (calls.piloted (absolute-attitude c)) e
-made-same g h dt state (commands.Land c) e = call-same g h dt state (calls.navigated (land c)) e
-made-same g h dt state (commands.AbsoluteRate c) e = call-same g h dt state (calls.piloted (absolute-rate c)) e
+guide-same : (g h : CopterGuidance) (dt : Float) (state : VehicleState) (command : Command) → norm-craft g ≡ norm-craft h
+    → norm-guided (guide-call g dt state command) ≡ norm-guided (guide-call h dt state command)
+unfolding guide-call
+guide-same g h dt state (commands.Attitude c) e = call-same g h dt state (calls.piloted (attitude c)) e
+guide-same g h dt state (commands.Waypoint c) e = call-same g h dt state (calls.navigated (waypoint c)) e
+guide-same g h dt state (commands.AbsoluteAttitude c) e = call-same g h dt state (calls.piloted (absolute-attitude c)) e
+guide-same g h dt state (commands.Land c) e = call-same g h dt state (calls.navigated (land c)) e
+guide-same g h dt state (commands.AbsoluteRate c) e = call-same g h dt state (calls.piloted (absolute-rate c)) e
 
 prime-same : (g h : CopterGuidance) (state : VehicleState) → norm-craft g ≡ norm-craft h → prime g state ≡ prime h state
 prime-same g h state e = prime-from-norm g state ∙ ap (λ (n : CopterGuidance). prime n state) e ∙ sym (prime-from-norm h state)
@@ -132,7 +132,7 @@ module _ (c d : Craft) (a : Alike (c .guidance) (d .guidance)) (body : List ℕ)
   checked-same g h e command true late headed = refused-same Mark
   checked-same g h e command false true headed = refused-same TimeStep
   checked-same g h e command false false false = refused-same Heading
-  checked-same g h e command false false true = guided-same _ _ (made-same g h (float-at body 0) (state-at body 4) command e)
+  checked-same g h e command false false true = guided-same _ _ (guide-same g h (float-at body 0) (state-at body 4) command e)
 
   called-same : (g h : Guidance) → Alike g h → (marks : Bool) (command : Command)
       → SameVerdict (called (checked g body marks) c command) (called (checked h body marks) d command)
@@ -274,7 +274,7 @@ unfolding float-at
 float-at-fits body at = ofBits-fits binary32 _
 
 module _ (heading : Float) (c : Craft) (body : List ℕ) (command : Command)
-    (leaves : (g : CopterGuidance) → Forgot heading (Configured (made command g (float-at body 0) (state-at body 4) .craft))) where
+    (leaves : (g : CopterGuidance) → Forgot heading (Configured (guide-call g (float-at body 0) (state-at body 4) command .craft))) where
   checked-forgot : (g : CopterGuidance) (late headed : Bool)
       → taken-on (called (cond late (readiness.Refused TimeStep) (cond headed (readiness.Call g (float-at body 0) (state-at body 4)) (readiness.Refused Heading))) c command .answer)
       → Forgot heading (called (cond late (readiness.Refused TimeStep) (cond headed (readiness.Call g (float-at body 0) (state-at body 4)) (readiness.Refused Heading))) c command .craft .guidance)
@@ -290,7 +290,7 @@ module _ (heading : Float) (c : Craft) (body : List ℕ) (command : Command)
   called-forgot (Configured g) t = checked-forgot g (not (time-step-ok (float-at body 0))) (heading-ok (state-at body 4 .«heading_rad»)) t
 
 kind-six-forgot : (c : Craft) (body : List ℕ) → taken-on (of-kind 6 c body .answer) → Forgot (heading-of 6 body) (of-kind 6 c body .craft .guidance)
-unfolding of-kind made absolute-attitude-call absolute-attitude-command
+unfolding of-kind guide-call absolute-attitude-call absolute-attitude-command
 kind-six-forgot c body =
     called-forgot (heading-of 6 body) c body (commands.AbsoluteAttitude (absolute-attitude-command body))
     (λ g. piloted-forgot (g .memory) (g .config) (float-at body 0) (state-at body 4) _ (heading-of 6 body)
@@ -299,7 +299,7 @@ kind-six-forgot c body =
 
 kind-eight-forgot : (c : Craft) (body : List ℕ) → taken-on (of-kind 8 c body .answer)
     → Forgot (heading-of 8 body) (of-kind 8 c body .craft .guidance)
-unfolding of-kind made absolute-rate-call
+unfolding of-kind guide-call absolute-rate-call
 kind-eight-forgot c body =
     called-forgot (heading-of 8 body) c body (commands.AbsoluteRate (absolute-rate-command body))
     (λ g. piloted-forgot (g .memory) (g .config) (float-at body 0) (state-at body 4) _ (heading-of 8 body)

@@ -13,8 +13,9 @@ use Rattle.wind.specs.declared.window.Filter.{Filter}
 use Rattle.wind.specs.declared.window.Filter.the-variants as filters
 use Rattle.wind.specs.declared.state.VehicleState.{VehicleState}
 use Rattle.copter.specs.Config.{rule}
-use Rattle.copter.specs.Guide.{wind-reading}
+use Rattle.copter.specs.Guide.{guide-call, wind-reading}
 use Rattle.copter.specs.declared.memory.CopterGuidance.{CopterGuidance}
+use Rattle.copter.specs.declared.commands.Command.{Command}
 use Rattle.copter.specs.declared.commands.Setpoint.{Setpoint}
 use Rattle.copter.specs.declared.commands.Setpoint.the-variants as setpoints
 use Rattle.copter.specs.declared.commands.Flags.{Flags}
@@ -25,11 +26,10 @@ use Rattle.records.specs.declared.craft.Craft.{Craft}
 use Rattle.records.specs.declared.answer.Answer.{Answer}
 use Rattle.records.specs.declared.answer.Answer.the-variants.{Attitude, BodyRate, Refused, Done, NoWind, Wind}
 use Rattle.records.specs.declared.answer.Refusal.the-variants.{TimeStep, Heading}
-use Rattle.records.specs.declared.step.Command.{Command}
 use Rattle.records.specs.declared.step.Ready.the-variants as readiness
 use Rattle.records.specs.declared.step.Verdict.{Verdict}
 use Rattle.records.specs.Read.{byte-at, float-at, state-at}
-use Rattle.records.specs.Step.{Outcome, lowest, time-step-ok, heading-ok, marks-ok, setpoint-answer, guided, configure, prime-record, checked, made, called, rate-record, wind-answer, wind-record, of-kind, body-length, answered, with-kind, step}
+use Rattle.records.specs.Step.{Outcome, lowest, time-step-ok, heading-ok, marks-ok, setpoint-answer, guided, configure, prime-record, checked, called, rate-record, wind-answer, wind-record, of-kind, body-length, answered, with-kind, step}
 
 -- ---- what is accepted
 
@@ -123,7 +123,7 @@ checks-accepted : (t h : Bool) (craft : Craft) (g : CopterGuidance) (dt : Float)
 unfolding called
 checks-accepted false h craft g dt state command = refl
 checks-accepted true false craft g dt state command = refl
-checks-accepted true true craft g dt state command = guided-accepted (made command g dt state)
+checks-accepted true true craft g dt state command = guided-accepted (guide-call g dt state command)
 
 call-accepted : (craft : Craft) (guidance : Guidance) (body : List ℕ) (marks : Bool) (command : Command) →
     ok (called (checked guidance body marks) craft command) ≡ call-ok guidance marks body

@@ -15,13 +15,13 @@ use Rattle.math.proofs.Laws.Worked as math
 use Rattle.controllers.proofs.Laws.Worked as controllers
 use Rattle.altitude.proofs.Laws.Worked as altitude
 use Rattle.copter.proofs.Laws.Worked as copter
-use Rattle.copter.specs.Guide.{absolute-attitude-call}
+use Rattle.copter.specs.Guide.{absolute-attitude-call, guide-call}
 use Rattle.copter.specs.declared.memory.CopterGuidance.{CopterGuidance}
 use Rattle.records.specs.declared.craft.Craft.{Craft}
 use Rattle.records.specs.declared.answer.Refusal.the-variants.{TimeStep}
 use Rattle.records.specs.declared.step.Verdict.{Verdict}
 use Rattle.records.specs.Read.{float-at, state-at, absolute-attitude-command}
-use Rattle.records.specs.Step.{configured, time-step-ok, heading-ok, refuse, setpoint-answer, guided, checked, made, called, of-kind, body-length, answered, with-kind, step}
+use Rattle.records.specs.Step.{configured, time-step-ok, heading-ok, refuse, setpoint-answer, guided, checked, called, of-kind, body-length, answered, with-kind, step}
 use Rattle.records.specs.Feed.{Entry, outcome, body-of}
 use Rattle.records.specs.Worked.{CallWith, CallAccepted, CallRefused, WorkedFlights}
 use Rattle.records.proofs.Laws.Examples.{examples}
@@ -45,7 +45,7 @@ module _ (t : Float) (entry : Entry) (call : CallWith t entry) where
 -- with a time step and a heading that pass
 call-flies : (g : CopterGuidance) (body : List ℕ) → time-step-ok (float-at body 0) ≡ true → heading-ok (state-at body 4 .«heading_rad») ≡ true
     → of-kind 6 (configured g) body ≡ guided (absolute-attitude-call g (float-at body 0) (state-at body 4) (absolute-attitude-command body))
-unfolding of-kind checked called made
+unfolding of-kind checked called guide-call
 call-flies g body in-time headed = rw (in-time, headed)
 
 -- with a time step that does not

@@ -10,8 +10,8 @@ checked-requires c κs = search needs
 enum-known-ready : tie.Need-enum-known-ready
 enum-known-ready c = search needs
 
-made-requires : tie.Need-made-requires
-made-requires c κs = search needs
+guide-requires : tie.Need-guide-requires
+guide-requires c κs = search needs
 
 guided-requires : tie.Need-guided-requires
 guided-requires c κs = search needs
@@ -29,7 +29,7 @@ returns c =
       ← c .before .before .before .before .before .checked .ensures,
       c .before .before .before .ready .given .1,
       c .guided .ensures,
-      c .before .made .ensures,
+      c .before .guide .ensures,
     )
 
 returns-2 : tie.Need-returns-2
@@ -42,7 +42,7 @@ call-spec =
     (tie.spec
     checked-requires
     enum-known-ready
-    made-requires
+    guide-requires
     guided-requires
     enum-known-ready-2
     refuse-requires

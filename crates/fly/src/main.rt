@@ -1,8 +1,7 @@
 // Flies a flight file: records on standard input, their answers on standard output. Each read is
 // answered before the next, so that answers come out as records come in.
 use records::craft::Craft;
-ghost use mathlib.Core.Path.{_≡_};
-ghost use Prim.Native.Nat.{_-_, _≤_};
+ghost use Prim.Native.Nat.{_≤_};
 ghost use lib.ListN.{length};
 
 // The craft between two reads, and how many bytes of a record that is not whole yet are held at the
@@ -66,20 +65,9 @@ fn fly_all(before: Craft, input: &[u8], last: bool, output: &mut [u8]) -> Progre
     }
 }
 
-// Moves the bytes from `from` to `end` to the start, by way of a spare buffer. Gives their number.
-fn move_down(input: &mut [u8], from: usize, end: usize, spare: &mut [u8]) -> usize
-    requires { ⌜ (from ≤ end) × (end ≤ length (now input)) ⌝ }
-    requires { ⌜ length (now input) ≤ length (now spare) ⌝ }
-    ensures { λ r. ⌜ r ≡ end - from ⌝ }
-{
-    let count = bytes::copy(&input[from..end], spare);
-    bytes::copy(&spare[..count], input)
-}
-
-// Reads once, flies what is whole, and keeps the rest. The answers' buffer is free once they are
-// written.
+// Reads once, flies what is whole, and keeps the rest.
 fn turn(state: State, input: &mut [u8], output: &mut [u8]) -> State
-    requires { ⌜ (state .held ≤ length (now input)) × (length (now input) ≤ length (now output)) ⌝ }
+    requires { ⌜ state .held ≤ length (now input) ⌝ }
     ensures { λ r. ⌜ r .held ≤ length (now (input .exit)) ⌝ }
 {
     let craft = state.craft;
@@ -88,11 +76,11 @@ fn turn(state: State, input: &mut [u8], output: &mut [u8]) -> State
     let last = end == held;
     let progress = fly_all(craft, &input[..end], last, output);
     let taken = progress.taken;
-    let held = move_down(input, taken, end, output);
+    buffers::move_down(input, taken, end);
     let craft = progress.craft;
     State {
         craft,
-        held,
+        held: end - taken,
         going: progress.going && !last,
     }
 }

@@ -19,7 +19,10 @@ fly-all-requires : tie.Need-fly-all-requires
 fly-all-requires c κs = search needs
 
 move-down-requires : tie.Need-move-down-requires
-move-down-requires c κs = omega (arith, slice-aggregate-fly-all (c .before .before .before .before .before .before), c .before .before .before .before .fly-all .ensures)
+move-down-requires c κs = search needs
+
+sub-t31 : tie.Need-sub-t31
+sub-t31 c = omega (arith, slice-aggregate-fly-all (c .before .before .before .before .before .before .before .before .before), c .before .before .before .before .before .before .before .fly-all .ensures)
 
 same-length : tie.Need-same-length
 same-length c = search needs
@@ -48,6 +51,7 @@ turn-spec =
     slice-aggregate-fly-all
     fly-all-requires
     move-down-requires
+    sub-t31
     same-length
     same-length-2
     returns

@@ -4,11 +4,13 @@
 //!   flights twins FEEDS COMMAND..     after an ending call, its answers beside those of a twin with another past
 //!   flights wrong FEEDS COMMAND..     the same with twins that are wrong, which have to be found
 //!   flights damage COMMAND..          cut, bad and random files
+//!   flights facts COMMAND..           flights whose answers a reader may not expect
 //!   flights large MEGABYTES COMMAND.. memory and speed on a large flight, and answers record by record
 
 mod compare;
 mod damage;
 mod document;
+mod facts;
 mod feeds;
 mod large;
 mod program;
@@ -23,6 +25,7 @@ const USAGE: &str = "usage: flights run RECORDS COMMAND..
        flights twins FEEDS COMMAND..
        flights wrong FEEDS COMMAND..
        flights damage COMMAND..
+       flights facts COMMAND..
        flights large MEGABYTES COMMAND..";
 
 fn main() -> ExitCode {
@@ -33,6 +36,7 @@ fn main() -> ExitCode {
         ["twins", feeds, _, ..] => number(feeds).and_then(|n| twins::run(&Program::new(&arguments[2..]), n)),
         ["wrong", feeds, _, ..] => number(feeds).and_then(|n| twins::run_wrong(&Program::new(&arguments[2..]), n)),
         ["damage", _, ..] => damage::run(&Program::new(&arguments[1..])),
+        ["facts", _, ..] => facts::run(&Program::new(&arguments[1..])),
         ["large", size, _, ..] => number(size).and_then(|n| large::run(&Program::new(&arguments[2..]), n)),
         _ => Err(USAGE.into()),
     };

@@ -1,14 +1,16 @@
-//! What the drivers here share: inputs from a fixed seed, and the ratio of two functions' times over the same list.
+//! What the drivers here share, not all of it in each: inputs from a fixed seed, and the ratio of two functions' times over the same list.
 //!
 //! Each round times both functions once over the list, the reference right before the port; the line gives the median of
 //! the rounds' ratios.
 
 use std::time::Instant;
 
+#[allow(dead_code)]
 pub const INPUTS: usize = 4096;
 const ROUNDS: usize = 41;
 
 /// Uniform numbers in [low, high), from a fixed linear congruence.
+#[allow(dead_code)]
 pub fn inputs(seed: u32, low: f32, high: f32) -> Vec<f32> {
     let mut state = seed;
     let mut next = || {

@@ -12,6 +12,7 @@ use Rattle.wind.specs.declared.window.Filter.{Filter}
 use Rattle.heading.specs.HoverWind as hover
 use Rattle.heading.specs.LegHeading as leg
 use Rattle.heading.specs.declared.hover_wind.HoverWind.{HoverWind}
+use Rattle.heading.specs.declared.leg_heading.Goal.{Goal}
 use Rattle.heading.specs.declared.leg_heading.Turn.{Turn}
 use Rattle.copter.specs.declared.commands.AttitudeCommand.{AttitudeCommand}
 use Rattle.copter.specs.declared.commands.TargetVelocity.the-variants as velocities
@@ -241,10 +242,18 @@ steer self s wind =
       flags = s .flags;
     }
 
--- what a plan gives, with the wind updated
-unfoldable pub flown : CopterGuidance → Float → VehicleState → HoverWind → Plan → Guided
-flown self dt state wind (plans.Navigated course descended turn) = fly-to self dt state course descended turn wind
-flown self dt state wind (plans.Piloted s) = steer self s wind
+-- the heading turned for a goal, with the wind updated
+unfoldable pub turn-for : CopterGuidance → Float → VehicleState → Goal → HoverWind → Turn
+turn-for self dt state goal wind =
+    let before = self .memory in
+    leg.toward (before .«leg_heading») dt (self .config .guidance .heading) (before .«heading_rad») goal (hover.estimate wind) state
+
+-- what a plan gives: the wind is updated first
+unfoldable pub flown : CopterGuidance → Float → VehicleState → Plan → Guided
+flown self dt state (plans.Navigated course descended goal) =
+    let wind = wind-updated (self .memory) (self .config) dt state in
+    fly-to self dt state course descended (turn-for self dt state goal wind) wind
+flown self dt state (plans.Piloted s) = steer self s (wind-updated (self .memory) (self .config) dt state)
 
 -- ---- configure, prime and the wind reading
 

@@ -23,13 +23,14 @@ use altitude::AltitudeControl;
 use altitude::AltitudeEstimate;
 use altitude::AltitudeTarget;
 use heading::hover_wind::HoverWind;
+use heading::leg_heading::Goal;
 use heading::leg_heading::LegHeading;
 use heading::leg_heading::Turn;
 use wind::state::VehicleState;
 use wind::window::Filter;
 ghost use mathlib.Core.Path.{_≡_};
 ghost use lib.Ieee.{Float};
-ghost use Rattle.copter.specs.Guide.{heading-target, followed-heading, wind-updated, command-heading, navigated-thrust, climb, piloted-flags, fly-to, attitude-call, absolute-attitude-call, absolute-rate-call, waypoint-call, land-call, guide-call, steered, steer, flown, new-craft, prime, wind-reading};
+ghost use Rattle.copter.specs.Guide.{heading-target, followed-heading, command-heading, navigated-thrust, climb, piloted-flags, fly-to, attitude-call, absolute-attitude-call, absolute-rate-call, waypoint-call, land-call, guide-call, steered, steer, turn-for, flown, new-craft, prime, wind-reading};
 
 // The craft after a call, its setpoint and its flags.
 pub struct Guided {
@@ -46,9 +47,9 @@ pub struct Steered {
 }
 
 // What a command flies once the wind is updated: a course at an altitude target with the heading
-// turned, or what the pilot commands.
+// turned for a goal, or what the pilot commands.
 pub enum Plan {
-    Navigated(Course, Descended, Turn),
+    Navigated(Course, Descended, Goal),
     Piloted(Steered),
 }
 
@@ -127,14 +128,14 @@ impl CopterGuidance {
         let config = self.config;
         let before = self.memory.wind;
         let wind = before.update(dt, config.wind, config.guidance.airborne_height_m, state);
-        let plan = self.plan(dt, state, command, wind);
+        let plan = self.plan(dt, state, command);
         match plan {
-            Plan::Navigated(course, descended, turn) => self.fly_to(
+            Plan::Navigated(course, descended, goal) => self.fly_to(
                 dt,
                 state,
                 course,
                 descended,
-                turn,
+                self.turn_for(dt, state, goal, wind),
                 wind,
             ),
             Plan::Piloted(steered) => self.steer(steered, wind),
@@ -177,18 +178,17 @@ impl CopterGuidance {
     }
 
     // What a command flies.
-    fn plan(self, dt: f32, state: VehicleState, command: Command, wind: HoverWind) -> Plan
-        requires { ⌜ wind ≡ wind-updated (self .memory) (self .config) dt state ⌝ }
-        ensures { λ r. ⌜ flown self dt state wind r ≡ guide-call self dt state command ⌝ }
+    fn plan(self, dt: f32, state: VehicleState, command: Command) -> Plan
+        ensures { λ r. ⌜ flown self dt state r ≡ guide-call self dt state command ⌝ }
     {
         match command {
             Command::Attitude(c) => Plan::Piloted(self.attitude_setpoint(dt, state, c)),
-            Command::Waypoint(c) => self.waypoint_leg(dt, state, c, wind),
+            Command::Waypoint(c) => self.waypoint_leg(dt, state, c),
             Command::AbsoluteAttitude(c) => Plan::Piloted(self.absolute_attitude_setpoint(
                 state,
                 c,
             )),
-            Command::Land(c) => self.land_leg(dt, state, c, wind),
+            Command::Land(c) => self.land_leg(dt, state, c),
             Command::AbsoluteRate(c) => Plan::Piloted(self.absolute_rate_setpoint(state, c)),
         }
     }
@@ -269,15 +269,8 @@ impl CopterGuidance {
     }
 
     // Toward a waypoint.
-    fn waypoint_leg(
-        self,
-        dt: f32,
-        state: VehicleState,
-        command: WaypointCommand,
-        wind: HoverWind,
-    ) -> Plan
-        requires { ⌜ wind ≡ wind-updated (self .memory) (self .config) dt state ⌝ }
-        ensures { λ r. ⌜ flown self dt state wind r ≡ waypoint-call self dt state command ⌝ }
+    fn waypoint_leg(self, dt: f32, state: VehicleState, command: WaypointCommand) -> Plan
+        ensures { λ r. ⌜ flown self dt state r ≡ waypoint-call self dt state command ⌝ }
     {
         let config = self.config;
         let before = self.memory;
@@ -292,17 +285,6 @@ impl CopterGuidance {
             state.position_m.z,
             state.velocity_mps.z,
         );
-        let leg = before.leg_heading;
-        let commanded = command.heading_rad;
-        let turn = leg.target_rad(
-            dt,
-            config.guidance.heading,
-            before.heading_rad,
-            command.position_m,
-            commanded,
-            wind.estimate(),
-            state,
-        );
         let position_m = command.position_m;
         let velocity_mps = command.velocity_mps;
         let course = Course {
@@ -310,13 +292,13 @@ impl CopterGuidance {
             velocity_mps,
             cruise_speed_mps: command.cruise_speed_mps,
         };
-        Plan::Navigated(course, descended, turn)
+        let commanded = command.heading_rad;
+        Plan::Navigated(course, descended, Goal::Waypoint(position_m, commanded))
     }
 
     // Down to a position, descending all the time.
-    fn land_leg(self, dt: f32, state: VehicleState, command: LandCommand, wind: HoverWind) -> Plan
-        requires { ⌜ wind ≡ wind-updated (self .memory) (self .config) dt state ⌝ }
-        ensures { λ r. ⌜ flown self dt state wind r ≡ land-call self dt state command ⌝ }
+    fn land_leg(self, dt: f32, state: VehicleState, command: LandCommand) -> Plan
+        ensures { λ r. ⌜ flown self dt state r ≡ land-call self dt state command ⌝ }
     {
         let config = self.config;
         let before = self.memory;
@@ -330,21 +312,30 @@ impl CopterGuidance {
             state.position_m.z,
             state.velocity_mps.z,
         );
-        let leg = before.leg_heading;
-        let turn = leg.land_target_rad(
-            dt,
-            config.guidance.heading,
-            before.heading_rad,
-            wind.estimate(),
-            state,
-        );
         let position_m = command.position_m;
         let course = Course {
             position_m,
             velocity_mps: TargetVelocity::Nothing,
             cruise_speed_mps: 0.0,
         };
-        Plan::Navigated(course, descended, turn)
+        Plan::Navigated(course, descended, Goal::Land)
+    }
+
+    // The heading turned for a goal, with the wind updated.
+    fn turn_for(self, dt: f32, state: VehicleState, goal: Goal, wind: HoverWind) -> Turn
+        ensures { λ r. ⌜ r ≡ turn-for self dt state goal wind ⌝ }
+    {
+        let config = self.config;
+        let before = self.memory;
+        let leg = before.leg_heading;
+        leg.toward(
+            dt,
+            config.guidance.heading,
+            before.heading_rad,
+            goal,
+            wind.estimate(),
+            state,
+        )
     }
 
     // A piloted call, with the wind updated: all of navigation is reset but the stored tilt.

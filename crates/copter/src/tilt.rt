@@ -265,7 +265,7 @@ impl LateralMemory {
                 controller,
                 rate: RateDivider::ran(),
                 tilt_rad,
-                tilt_capped: requested.norm() > config.guidance.max_tilt_rad,
+                tilt_capped: math::exceeds(requested, config.guidance.max_tilt_rad),
                 requested_accel_mps2: accel_mps2,
             },
             tilt_rad,

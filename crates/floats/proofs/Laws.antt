@@ -6,6 +6,8 @@ pub mod Fractions
 pub mod Sum
 pub mod Product
 pub mod Grid
+pub mod Near
+pub mod Remainder
 -- Signs, special values and bit patterns.
 pub mod Special
 pub mod Sign

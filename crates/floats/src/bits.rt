@@ -35,11 +35,11 @@ pub fn size_bits(x: f32) -> u32
     f32::to_bits(x) % 2147483648
 }
 
-// The float of four bytes, the low byte first.
-pub fn from_le_bytes(b0: u8, b1: u8, b2: u8, b3: u8) -> f32
-    ensures { λ r. ⌜ r ≡ ofBits binary32 (le-word b0 b1 b2 b3) ⌝ }
+// The word of four bytes, the low byte first.
+pub fn le_word(b0: u8, b1: u8, b2: u8, b3: u8) -> u32
+    ensures { λ r. ⌜ r ≡ le-word b0 b1 b2 b3 ⌝ }
 {
-    from_bits((b0 as u32) + 256 * (b1 as u32) + 65536 * (b2 as u32) + 16777216 * (b3 as u32))
+    (b0 as u32) + 256 * (b1 as u32) + 65536 * (b2 as u32) + 16777216 * (b3 as u32)
 }
 
 // The four bytes of a float, the low byte first.

@@ -6,3 +6,4 @@ pub mod Leg
 pub mod Yield
 pub mod Side
 pub mod Turn
+pub mod Toward

@@ -20,8 +20,11 @@ use Rattle.heading.specs.declared.leg_heading.Leg.{Leg}
 use Rattle.heading.specs.declared.leg_heading.LegMemory.{LegMemory}
 use Rattle.heading.specs.declared.leg_heading.LegMemory.the-variants as legs
 use Rattle.heading.specs.declared.leg_heading.LegHeading.{LegHeading}
+use Rattle.heading.specs.declared.leg_heading.Goal.{Goal}
+use Rattle.heading.specs.declared.leg_heading.Goal.the-variants.{Waypoint, Land}
 use Rattle.heading.specs.declared.leg_heading.Turn.{Turn}
 use Rattle.heading.specs.declared.leg_heading.Bearing.{Bearing}
+use Rattle.heading.specs.declared.leg_heading.Sighted.{Sighted}
 use Rattle.heading.specs.declared.leg_heading.Yielded.{Yielded}
 use Rattle.heading.specs.WindHeading as wind
 
@@ -176,3 +179,23 @@ land-target self dt config heading estimate state =
     let kept = cleared self in
     let turn = wind.target (kept .wind) config estimate (state .«heading_rad») in
     held-or-turned (turn .«target_rad») (with-wind kept (turn .wind)) dt config heading
+
+-- ---- a call with its goal
+
+-- the heading to turn to, for what a call flies to
+unfoldable pub toward : LegHeading → Float → HeadingConfig → Float → Goal → Filter → VehicleState → Turn
+toward self dt config heading (Waypoint position commanded) estimate state = target self dt config heading position commanded estimate state
+toward self dt config heading Land estimate state = land-target self dt config heading estimate state
+
+-- a land call has no commanded heading
+unfoldable pub commanded-angle : Goal → Angle
+commanded-angle (Waypoint position commanded) = finite-angle commanded
+commanded-angle Land = Nothing
+
+-- what a call has in sight before the wind turns the heading; a land call holds its position
+unfoldable pub sighted : LegHeading → HeadingConfig → Goal → VehicleState → Sighted
+sighted self config (Waypoint position commanded) state =
+    let leg = bearing self config position (here-of state) in
+    let holds = on-station (leg .«bearing_rad») config (minus position (here-of state)) in
+    record { memory = leg .memory; «bearing_rad» = leg .«bearing_rad»; holds = holds; lands = false }
+sighted self config Land state = record { memory = cleared self; «bearing_rad» = Nothing; holds = true; lands = true }

@@ -8,7 +8,7 @@ use math::vectors::Vec2;
 use wind::state::VehicleState;
 use wind::window::Filter;
 ghost use mathlib.Core.Path.{_≡_};
-ghost use Rattle.heading.specs.LegHeading.{fresh, cleared, with-wind, on-leg, leg-bearing, new-leg, bearing, on-station, station-turn, stuck, stuck-for, counted, yielded, turned-toward, commanded-turn, along-leg, uncommanded, finite-angle, target, land-target};
+ghost use Rattle.heading.specs.LegHeading.{fresh, cleared, with-wind, on-leg, leg-bearing, new-leg, bearing, on-station, station-turn, stuck, stuck-for, counted, yielded, turned-toward, commanded-turn, along-leg, finite-angle, target, land-target, toward, commanded-angle, sighted};
 
 // A leg: the waypoint's position, and the direction to it from where the leg began, where it was long
 // enough.
@@ -31,6 +31,13 @@ pub struct LegHeading {
     pub wind: WindHeading,
 }
 
+// What a call flies to: a waypoint's position with the heading that is commanded there, or the
+// ground.
+pub enum Goal {
+    Waypoint(Vec2, Angle),
+    Land,
+}
+
 // The memory after a call, and the heading to turn to.
 pub struct Turn {
     pub memory: LegHeading,
@@ -41,6 +48,15 @@ pub struct Turn {
 pub struct Bearing {
     pub memory: LegHeading,
     pub bearing_rad: Angle,
+}
+
+// What a call has in sight before the wind turns the heading: the memory, the leg's direction,
+// whether the craft holds its position, and whether it lands.
+pub struct Sighted {
+    pub memory: LegHeading,
+    pub bearing_rad: Angle,
+    pub holds: bool,
+    pub lands: bool,
 }
 
 // The memory after a look at the heading, and whether it is yielded.
@@ -74,7 +90,7 @@ impl LegHeading {
         }
     }
 
-    // The heading to turn to in a waypoint call. A finite commanded heading resets all.
+    // The heading to turn to in a waypoint call.
     pub fn target_rad(
         self,
         dt: f32,
@@ -87,46 +103,104 @@ impl LegHeading {
     ) -> Turn
         ensures { λ r. ⌜ r ≡ target self dt config «target_rad» «position_m» commanded estimate state ⌝ }
     {
-        let Angle::Rad(heading_rad) = finite_angle(commanded) else {
-            return self.uncommanded(dt, config, target_rad, position_m, estimate, state);
-        };
-        Turn {
-            memory: LegHeading::new(),
-            heading_rad: commanded_turn(dt, config, target_rad, heading_rad),
-        }
+        self.toward(
+            dt,
+            config,
+            target_rad,
+            Goal::Waypoint(position_m, commanded),
+            estimate,
+            state,
+        )
     }
 
-    // A call with no finite commanded heading: the wind's heading on station, else the craft's own
-    // where it yields, else along the leg.
-    fn uncommanded(
+    // The heading to turn to in a land call: it is held, or turned with the wind.
+    pub fn land_target_rad(
         self,
         dt: f32,
         config: HeadingConfig,
         target_rad: f32,
-        position_m: Vec2,
         estimate: Filter,
         state: VehicleState,
     ) -> Turn
-        ensures { λ r. ⌜ r ≡ uncommanded self dt config «target_rad» «position_m» estimate state ⌝ }
+        ensures { λ r. ⌜ r ≡ land-target self dt config «target_rad» estimate state ⌝ }
     {
-        let here_m = Vec2 {
-            x: state.position_m.x,
-            y: state.position_m.y,
-        };
-        let leg = self.bearing_rad(config, position_m, here_m);
-        let before = leg.memory;
-        let bearing_rad = leg.bearing_rad;
-        let holds = on_station(bearing_rad, config, position_m.minus(here_m));
-        let turn = station_turn(holds, before.wind, config, estimate, state.heading_rad);
+        self.toward(dt, config, target_rad, Goal::Land, estimate, state)
+    }
+
+    // The heading to turn to, for what a call flies to. A finite commanded heading resets all. Else
+    // it is the wind's where the craft holds its position and the wind gives one, else kept in a
+    // land call, else along the leg.
+    pub fn toward(
+        self,
+        dt: f32,
+        config: HeadingConfig,
+        target_rad: f32,
+        goal: Goal,
+        estimate: Filter,
+        state: VehicleState,
+    ) -> Turn
+        ensures { λ r. ⌜ r ≡ toward self dt config «target_rad» goal estimate state ⌝ }
+    {
+        let commanded = commanded_angle(goal);
+        if let Angle::Rad(heading_rad) = commanded {
+            return Turn {
+                memory: LegHeading::new(),
+                heading_rad: commanded_turn(dt, config, target_rad, heading_rad),
+            };
+        }
+        let sighted = self.sighted(config, goal, state);
+        let before = sighted.memory;
+        // No look at a goal changes the wind heading, so it is the one that the call began with.
+        let turn = station_turn(
+            sighted.holds,
+            self.wind,
+            config,
+            estimate,
+            state.heading_rad,
+        );
         let wind = turn.wind;
         let memory = before.with_wind(wind);
         let turned = turn.target_rad;
         let Angle::Rad(heading_rad) = turned else {
+            if sighted.lands {
+                return Turn {
+                    memory,
+                    heading_rad: target_rad,
+                };
+            }
+            let bearing_rad = sighted.bearing_rad;
             return memory.along_leg(dt, config, target_rad, bearing_rad, state);
         };
         Turn {
             memory,
             heading_rad: commanded_turn(dt, config, target_rad, heading_rad),
+        }
+    }
+
+    // A look at the goal. A land call holds its position.
+    fn sighted(self, config: HeadingConfig, goal: Goal, state: VehicleState) -> Sighted
+        ensures { λ r. ⌜ r ≡ sighted self config goal state ⌝ }
+    {
+        let Goal::Waypoint(position_m, _) = goal else {
+            return Sighted {
+                memory: self.clear(),
+                bearing_rad: Angle::Nothing,
+                holds: true,
+                lands: true,
+            };
+        };
+        let here_m = Vec2 {
+            x: state.position_m.x,
+            y: state.position_m.y,
+        };
+        let leg = self.bearing_rad(config, position_m, here_m);
+        let memory = leg.memory;
+        let bearing_rad = leg.bearing_rad;
+        Sighted {
+            memory,
+            bearing_rad,
+            holds: on_station(bearing_rad, config, position_m.minus(here_m)),
+            lands: false,
         }
     }
 
@@ -179,50 +253,20 @@ impl LegHeading {
         }
     }
 
-    // The heading to turn to in a land call: it is held, or turned with the wind.
-    pub fn land_target_rad(
-        self,
-        dt: f32,
-        config: HeadingConfig,
-        target_rad: f32,
-        estimate: Filter,
-        state: VehicleState,
-    ) -> Turn
-        ensures { λ r. ⌜ r ≡ land-target self dt config «target_rad» estimate state ⌝ }
-    {
-        let cleared = self.clear();
-        let before = cleared.wind;
-        let turn = before.target_rad(config, estimate, state.heading_rad);
-        let wind = turn.wind;
-        let memory = cleared.with_wind(wind);
-        let turned = turn.target_rad;
-        let Angle::Rad(heading_rad) = turned else {
-            return Turn {
-                memory,
-                heading_rad: target_rad,
-            };
-        };
-        Turn {
-            memory,
-            heading_rad: commanded_turn(dt, config, target_rad, heading_rad),
-        }
-    }
-
     // The direction of the leg to the waypoint. A position that is not the leg's starts a new leg,
     // or none where the craft's own position is not finite.
     fn bearing_rad(self, config: HeadingConfig, position_m: Vec2, here_m: Vec2) -> Bearing
         ensures { λ r. ⌜ r ≡ bearing self config «position_m» «here_m» ⌝ }
     {
         let flown = self.leg;
-        let LegMemory::Flown(leg) = flown else {
-            return self.new_leg(config, position_m, here_m);
-        };
-        if on_leg(leg, position_m) {
-            let bearing_rad = leg.bearing_rad;
-            return Bearing {
-                memory: self,
-                bearing_rad,
-            };
+        if let LegMemory::Flown(leg) = flown {
+            if on_leg(leg, position_m) {
+                let bearing_rad = leg.bearing_rad;
+                return Bearing {
+                    memory: self,
+                    bearing_rad,
+                };
+            }
         }
         self.new_leg(config, position_m, here_m)
     }
@@ -354,7 +398,7 @@ fn on_station(bearing_rad: Angle, config: HeadingConfig, to_m: Vec2) -> bool
     let Angle::Rad(_) = bearing_rad else {
         return true;
     };
-    to_m.norm() <= config.waypoint_yaw_min_leg_m
+    math::within(to_m, config.waypoint_yaw_min_leg_m)
 }
 
 // The wind's heading, which is asked for on station only.
@@ -387,6 +431,16 @@ fn finite_angle(commanded: Angle) -> Angle
         return commanded;
     }
     Angle::Nothing
+}
+
+// The finite heading that is commanded; a land call has none.
+fn commanded_angle(goal: Goal) -> Angle
+    ensures { λ r. ⌜ r ≡ commanded-angle goal ⌝ }
+{
+    let Goal::Waypoint(_, commanded) = goal else {
+        return Angle::Nothing;
+    };
+    finite_angle(commanded)
 }
 
 fn commanded_turn(dt: f32, config: HeadingConfig, from_rad: f32, to_rad: f32) -> f32

@@ -2,6 +2,7 @@
 pub mod Cap
 pub mod Closing
 pub mod Largest
+pub mod Length
 pub mod Limits
 pub mod Thrust
 pub mod Worked

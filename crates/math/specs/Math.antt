@@ -1,5 +1,6 @@
 -- math.rs as far as guidance uses it, with the order of its float operations, each rounded once. Assumes nothing.
-use mathlib.Core.Bool.{Bool, cond, _&&_, _||_}
+use mathlib.Core.Path.{_≡_}
+use mathlib.Core.Bool.{Bool, true, false, cond, _&&_, _||_}
 use lib.Ieee.{Float, binary32, isNan, neg, lt, le, eq, rem}
 use lib.Ieee.Scale.{finite}
 use Rattle.floats.specs.Ops.{f32, _⊕_, _⊖_, _⊗_, _⊘_}
@@ -42,6 +43,27 @@ unfoldable pub cap-magnitude : Vec2 → Float → Vec2
 cap-magnitude v limit =
     let length = norm v in
     cond (finite length) (cond (lt limit length) (times v (limit ⊘ length)) v) zeros
+
+-- whether v is at most `limit` long, and whether it is longer
+unfoldable pub within : Vec2 → Float → Bool
+within v limit = le (norm v) limit
+
+unfoldable pub exceeds : Vec2 → Float → Bool
+exceeds v limit = lt limit (norm v)
+
+-- the limits from 0.0000001 to 10000000: each is the root of its square
+unfoldable pub has-plain-square : Float → Bool
+has-plain-square limit = le (f32 0x33D6_BF95) limit && le limit (f32 0x4B18_9680)
+
+-- what is known where a limit's square told on which side of it the root of `square` is
+pub record RootWithin (square limit : Float) : Type 0 where
+  pub at-most : le (sqrt binary32 square) limit ≡ true
+  pub not-above : lt limit (sqrt binary32 square) ≡ false
+  pub bounded : finite (sqrt binary32 square) ≡ true
+
+pub record RootBeyond (square limit : Float) : Type 0 where
+  pub not-within : le (sqrt binary32 square) limit ≡ false
+  pub above : lt limit (sqrt binary32 square) ≡ true
 
 -- a limit that is negative or a NaN counts as 0
 unfoldable pub limit-or-zero : Float → Float

@@ -6,14 +6,20 @@ use vectors::Quaternion;
 use vectors::Vec2;
 use vectors::Vec3;
 ghost use mathlib.Core.Path.{_≡_};
-ghost use Rattle.math.specs.Math.{cap-magnitude, saturate-unit, saturate-symmetric, clamp-symmetric, limit-or-zero, clamp-symmetric-each, all-finite, neu-to-ned, tilt-boost, saturate-throttle, guard-sink, shaped-closing-speed, braked-speed, wrap-angle, rem-euclid};
+ghost use mathlib.Core.Bool.{true, false};
+ghost use lib.Ieee.{lt};
+ghost use Rattle.math.specs.Math.{zero, cap-magnitude, within, exceeds, RootWithin, RootBeyond, has-plain-square, saturate-unit, saturate-symmetric, clamp-symmetric, limit-or-zero, clamp-symmetric-each, all-finite, neu-to-ned, tilt-boost, saturate-throttle, guard-sink, shaped-closing-speed, braked-speed, wrap-angle, rem-euclid};
 
 // v scaled down, keeping its direction, so that its length is at most `max`. A vector of no finite
 // length has no direction and becomes zero.
 pub fn cap_magnitude(v: Vec2, max: f32) -> Vec2
     ensures { λ r. ⌜ r ≡ cap-magnitude v max ⌝ }
 {
-    let length = v.norm();
+    let square = v.dot(v);
+    if surely_within(square, max) {
+        return v;
+    }
+    let length = floats::sqrt::sqrtf(square);
     if floats::compare::is_finite(length) {
         if max < length {
             return v.times(max / length);
@@ -21,6 +27,67 @@ pub fn cap_magnitude(v: Vec2, max: f32) -> Vec2
         return v;
     }
     Vec2::zeros()
+}
+
+// Whether v is at most `limit` long. A NaN on either side is not.
+pub fn within(v: Vec2, limit: f32) -> bool
+    ensures { λ r. ⌜ r ≡ within v limit ⌝ }
+{
+    let square = v.dot(v);
+    if surely_within(square, limit) {
+        return true;
+    }
+    if surely_beyond(square, limit) {
+        return false;
+    }
+    floats::sqrt::sqrtf(square) <= limit
+}
+
+// Whether v is longer than `limit`. A NaN on either side is not.
+pub fn exceeds(v: Vec2, limit: f32) -> bool
+    ensures { λ r. ⌜ r ≡ exceeds v limit ⌝ }
+{
+    let square = v.dot(v);
+    if surely_within(square, limit) {
+        return false;
+    }
+    if surely_beyond(square, limit) {
+        return true;
+    }
+    limit < floats::sqrt::sqrtf(square)
+}
+
+// Whether the limit's square tells without a root that the root of `square` is at most the limit.
+fn surely_within(square: f32, limit: f32) -> bool
+    requires { ⌜ lt square zero ≡ false ⌝ }
+    ensures { λ r. ⌜ (r ≡ true → RootWithin square limit) ⌝ }
+{
+    if has_plain_square(limit) {
+        return square <= limit * limit;
+    }
+    false
+}
+
+// Whether the square of twice the limit tells without a root that the root of `square` is more than
+// the limit.
+fn surely_beyond(square: f32, limit: f32) -> bool
+    ensures { λ r. ⌜ (r ≡ true → RootBeyond square limit) ⌝ }
+{
+    if has_plain_square(limit) {
+        let double = 2.0 * limit;
+        return double * double <= square;
+    }
+    false
+}
+
+// Whether the limit is so far from underflow and overflow that the root of its square is the limit.
+pub fn has_plain_square(limit: f32) -> bool
+    ensures { λ r. ⌜ r ≡ has-plain-square limit ⌝ }
+{
+    if 0.0000001 <= limit {
+        return limit <= 10000000.0;
+    }
+    false
 }
 
 // A command saturated to [-1, 1]; a NaN becomes 0.
@@ -182,10 +249,17 @@ pub fn wrap_angle(angle: f32) -> f32
 }
 
 // The remainder in [0, divisor) for a positive divisor: `%` has the sign of `value`, so a negative
-// one is shifted up.
+// one is shifted up. A value between -divisor and divisor is its own remainder.
 pub fn rem_euclid(value: f32, divisor: f32) -> f32
     ensures { λ r. ⌜ r ≡ rem-euclid value divisor ⌝ }
 {
+    if 0.0 <= value {
+        if value < divisor {
+            return value;
+        }
+    } else if -divisor < value {
+        return value + divisor;
+    }
     let remainder = value % divisor;
     if remainder < 0.0 {
         return remainder + divisor;

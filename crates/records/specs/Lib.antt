@@ -2,6 +2,7 @@
 pub mod Answer
 pub mod Craft
 pub mod Read
+pub mod Ready
 pub mod Step
 pub mod Feed
 pub mod Flight

@@ -31,8 +31,11 @@ abbrev pub byte-at : List ℕ → ℕ → ℕ
 byte-at body at = getD body at 0
 
 -- four bytes, the low byte first
+abbrev pub word-at : List ℕ → ℕ → ℕ
+word-at body at = le-word (byte-at body at) (byte-at body (at + 1)) (byte-at body (at + 2)) (byte-at body (at + 3))
+
 unfoldable pub float-at : List ℕ → ℕ → Float
-float-at body at = ofBits binary32 (le-word (byte-at body at) (byte-at body (at + 1)) (byte-at body (at + 2)) (byte-at body (at + 3)))
+float-at body at = ofBits binary32 (word-at body at)
 
 unfoldable pub vec2-at : List ℕ → ℕ → Vec2
 vec2-at body at = record { x = float-at body at; y = float-at body (at + 4) }

@@ -28,9 +28,11 @@ use Rattle.records.specs.declared.answer.Refusal.{Refusal}
 use Rattle.records.specs.declared.answer.Refusal.the-variants.{Field, TimeStep, Heading, Rate, Kind, Short, NotConfigured, Mark, NoRoom}
 use Rattle.records.specs.declared.answer.Answer.{Answer}
 use Rattle.records.specs.declared.answer.Answer.the-variants.{Attitude, BodyRate, Refused, Done, NoWind, Wind}
-use Rattle.records.specs.declared.step.Ready.{Ready}
-use Rattle.records.specs.declared.step.Ready.the-variants as readiness
-use Rattle.records.specs.declared.step.Verdict.{Verdict}
+use Rattle.records.specs.declared.step.Moved.{Moved}
+use Rattle.records.specs.declared.step.Moved.the-variants as moves
+use Rattle.records.specs.declared.step.Judged.{Judged}
+use Rattle.records.specs.Ready.{Ready}
+use Rattle.records.specs.Ready as readiness
 use Rattle.records.specs.declared.step.Handled.{Handled}
 use Rattle.records.specs.Answer.{answer-bytes}
 use Rattle.records.specs.Read.{byte-at, float-at, state-at, configuration, attitude-command, waypoint-command, absolute-attitude-command, land-command, absolute-rate-command}
@@ -58,6 +60,11 @@ unfoldable pub marks-ok : List ℕ → Bool
 marks-ok body = leb (byte-at body 72) 1 && leb (byte-at body 89) 1
 
 -- ---- each kind of record, over its body
+
+-- The craft after a record, and its answer.
+pub record Verdict : Type 0 where
+  pub craft : Craft
+  pub answer : Answer
 
 abbrev pub refuse : Craft → Refusal → Verdict
 refuse craft refusal = record { craft = craft; answer = Refused refusal }
@@ -121,6 +128,26 @@ of-kind kind craft body =
     (cond (eqb kind 6) (call-record craft body true (commands.AbsoluteAttitude (absolute-attitude-command body)))
     (cond (eqb kind 7) (call-record craft body true (commands.Land (land-command body)))
     (cond (eqb kind 8) (call-record craft body true (commands.AbsoluteRate (absolute-rate-command body))) (wind-record craft (craft .guidance)))))))))
+
+-- ---- the port's records, before the craft is moved
+
+abbrev pub holding : Guidance → Craft
+holding guidance = record { guidance = guidance }
+
+unfoldable pub answer-of : Moved → Answer
+answer-of (moves.To guidance answer) = answer
+answer-of (moves.Kept answer) = answer
+
+unfoldable pub craft-of : Craft → Moved → Craft
+craft-of craft (moves.To guidance answer) = configured guidance
+craft-of craft (moves.Kept answer) = craft
+
+abbrev pub settled : Craft → Moved → Verdict
+settled craft moved = record { craft = craft-of craft moved; answer = answer-of moved }
+
+-- a refusal that takes no byte
+abbrev pub untaken : Refusal → Judged
+untaken refusal = record { moved = moves.Kept (Refused refusal); taken = 0 }
 
 -- ---- a record
 

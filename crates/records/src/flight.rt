@@ -71,7 +71,7 @@ pub fn fly(before: Craft, bytes: &[u8], last: bool, out: &mut [u8]) -> Flown
     let mut written = 0;
     while !waits(last, &bytes[taken..], out.len() - written) {
         let handled = crate::step::record(craft, &bytes[taken..], &mut out[written..]);
-        craft = handled.craft;
+        craft = crate::renew::renewed(handled.craft);
         taken += handled.taken;
         written += handled.written;
         let answer = handled.answer;

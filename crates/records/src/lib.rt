@@ -3,5 +3,6 @@ pub mod answer;
 pub mod craft;
 pub mod flight;
 mod read;
+pub mod renew;
 pub mod step;
 mod write;

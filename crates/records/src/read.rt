@@ -22,14 +22,23 @@ use wind::state::VehicleState;
 ghost use mathlib.Core.Path.{_≡_};
 ghost use Prim.Native.Nat.{_+_, _≤_};
 ghost use lib.ListN.{length};
-ghost use Rattle.records.specs.Read.{float-at, vec2-at, vec3-at, state-at, gains-at, altitude-config, lateral-config, heading-config, guidance-config, thrust-limits, wind-config, configuration, attitude-command, waypoint-velocity, waypoint-heading, waypoint-command, absolute-attitude-command, land-command, absolute-rate-command};
+ghost use Rattle.records.specs.Read.{word-at, float-at, vec2-at, vec3-at, state-at, gains-at, altitude-config, lateral-config, heading-config, guidance-config, thrust-limits, wind-config, configuration, attitude-command, waypoint-velocity, waypoint-heading, waypoint-command, absolute-attitude-command, land-command, absolute-rate-command};
+
+// The word at an index. It has a function of its own, in which the compiler reads the four bytes at
+// once.
+fn read_word(body: &[u8], at: usize) -> u32
+    requires { ⌜ at + 4 ≤ length (now body) ⌝ }
+    ensures { λ r. ⌜ r ≡ word-at (now (body .entry)) at ⌝ }
+{
+    floats::bits::le_word(body[at], body[at + 1], body[at + 2], body[at + 3])
+}
 
 // The float at an index.
 pub fn read_f32(body: &[u8], at: usize) -> f32
     requires { ⌜ at + 4 ≤ length (now body) ⌝ }
     ensures { λ r. ⌜ r ≡ float-at (now (body .entry)) at ⌝ }
 {
-    floats::bits::from_le_bytes(body[at], body[at + 1], body[at + 2], body[at + 3])
+    floats::bits::from_bits(read_word(body, at))
 }
 
 fn read_vec2(body: &[u8], at: usize) -> Vec2

@@ -8,18 +8,26 @@ use copter::commands::Flags;
 use copter::commands::Setpoint;
 use copter::guide::Guided;
 use copter::memory::CopterGuidance;
-use wind::state::VehicleState;
 use wind::window::Filter;
 ghost use mathlib.Core.Path.{_≡_};
-ghost use Prim.Native.Nat.{_≤_};
+ghost use Prim.Native.Nat.{ℕ, _≤_};
+ghost use mathlib.Core.List.{List};
 ghost use lib.ListN.{length};
 ghost use Rattle.records.specs.declared.craft.Craft.{Craft};
-ghost use Rattle.records.specs.Step.{lowest, time-step-ok, heading-ok, marks-ok, refuse, setpoint-answer, guided, configure, prime-record, checked, call-record, rate-record, wind-record, of-kind, body-length, reported, answered, step};
+ghost use Rattle.records.specs.declared.answer.Answer.the-variants.{Refused};
+ghost use Rattle.records.specs.declared.step.Moved.the-variants.{Kept};
+ghost use Rattle.records.specs.Step.{lowest, time-step-ok, heading-ok, marks-ok, setpoint-answer, guided, configure, prime-record, checked, called, call-record, rate-record, wind-record, of-kind, body-length, holding, answer-of, craft-of, settled, untaken, answered, reported, step};
 
-// The craft after a record, and its answer.
-pub struct Verdict {
-    pub craft: Craft,
-    pub answer: Answer,
+// A craft moved by a record, or kept as it was, with the record's answer.
+pub enum Moved {
+    To(CopterGuidance, Answer),
+    Kept(Answer),
+}
+
+// What a record comes to, and the bytes that it takes.
+pub struct Judged {
+    pub moved: Moved,
+    pub taken: usize,
 }
 
 // The craft after a record, its answer, and the bytes taken and written.
@@ -36,20 +44,10 @@ pub struct Order {
     pub marks: bool,
 }
 
-// A call whose checks have passed, with the craft, the time step and the state that it is made with,
-// or why it is refused.
-pub enum Ready {
-    Call(CopterGuidance, f32, VehicleState),
-    Refused(Refusal),
-}
-
-fn refuse(craft: Craft, refusal: Refusal) -> Verdict
-    ensures { λ r. ⌜ r ≡ refuse craft refusal ⌝ }
+fn refuse(refusal: Refusal) -> Moved
+    ensures { λ r. ⌜ r ≡ Kept (Refused refusal) ⌝ }
 {
-    Verdict {
-        craft,
-        answer: Answer::Refused(refusal),
-    }
+    Moved::Kept(Answer::Refused(refusal))
 }
 
 // The lowest field that breaks its rule, or 51.
@@ -69,21 +67,16 @@ fn lowest_field(body: &[u8]) -> u8
     field
 }
 
-fn configure(craft: Craft, body: &[u8]) -> Verdict
+fn configure(body: &[u8]) -> Moved
     requires { ⌜ 200 ≤ length (now body) ⌝ }
-    ensures { λ r. ⌜ r ≡ configure craft (now (body .entry)) ⌝ }
+    ensures { λ r. ⌜ ((craft : Craft) → settled craft r ≡ configure craft (now (body .entry))) ⌝ }
 {
     let field = lowest_field(body);
     if field <= 50 {
-        return refuse(craft, Refusal::Field(field));
+        return refuse(Refusal::Field(field));
     }
     let fresh = CopterGuidance::new(crate::read::read_configuration(body));
-    Verdict {
-        craft: Craft {
-            guidance: Guidance::Configured(fresh),
-        },
-        answer: Answer::Done,
-    }
+    Moved::To(fresh, Answer::Done)
 }
 
 // From 1/4,096 to 1; a NaN is not.
@@ -106,46 +99,18 @@ fn heading_ok(heading_rad: f32) -> bool
     true
 }
 
-fn prime(craft: Craft, body: &[u8]) -> Verdict
+fn prime(guidance: Guidance, body: &[u8]) -> Moved
     requires { ⌜ 60 ≤ length (now body) ⌝ }
-    ensures { λ r. ⌜ r ≡ prime-record craft (craft .guidance) (now (body .entry)) ⌝ }
+    ensures { λ r. ⌜ ((craft : Craft) → settled craft r ≡ prime-record craft guidance (now (body .entry))) ⌝ }
 {
-    let guidance = craft.guidance;
     let Guidance::Configured(g) = guidance else {
-        return refuse(craft, Refusal::NotConfigured);
+        return refuse(Refusal::NotConfigured);
     };
     let state = crate::read::read_state(body, 0);
     if heading_ok(state.heading_rad) {
-        return Verdict {
-            craft: Craft {
-                guidance: Guidance::Configured(g.prime(state)),
-            },
-            answer: Answer::Done,
-        };
+        return Moved::To(g.prime(state), Answer::Done);
     }
-    refuse(craft, Refusal::Heading)
-}
-
-// The checks of a call, in document 01's order; `marks` says whether its marks are 0 or 1.
-fn checked(guidance: Guidance, body: &[u8], marks: bool) -> Ready
-    requires { ⌜ 64 ≤ length (now body) ⌝ }
-    ensures { λ r. ⌜ r ≡ checked guidance (now (body .entry)) marks ⌝ }
-{
-    let Guidance::Configured(g) = guidance else {
-        return Ready::Refused(Refusal::NotConfigured);
-    };
-    if !marks {
-        return Ready::Refused(Refusal::Mark);
-    }
-    let dt = crate::read::read_f32(body, 0);
-    if !time_step_ok(dt) {
-        return Ready::Refused(Refusal::TimeStep);
-    }
-    let state = crate::read::read_state(body, 4);
-    if heading_ok(state.heading_rad) {
-        return Ready::Call(g, dt, state);
-    }
-    Ready::Refused(Refusal::Heading)
+    refuse(Refusal::Heading)
 }
 
 // Both marks of a waypoint are 0 or 1.
@@ -169,61 +134,58 @@ fn setpoint_answer(setpoint: Setpoint, flags: Flags) -> Answer
     }
 }
 
-fn guided(g: Guided) -> Verdict
-    ensures { λ r. ⌜ r ≡ guided g ⌝ }
+fn guided(g: Guided) -> Moved
+    ensures { λ r. ⌜ ((craft : Craft) → settled craft r ≡ guided g) ⌝ }
 {
     let after = g.craft;
     let setpoint = g.setpoint;
     let flags = g.flags;
-    Verdict {
-        craft: Craft {
-            guidance: Guidance::Configured(after),
-        },
-        answer: setpoint_answer(setpoint, flags),
-    }
+    Moved::To(after, setpoint_answer(setpoint, flags))
 }
 
-// A call's record: its checks, and then the call.
-fn call(craft: Craft, body: &[u8], marks: bool, command: Command) -> Verdict
+// A call's record: its checks, in document 01's order, and then the call; `marks` says whether its
+// marks are 0 or 1.
+fn call(guidance: Guidance, body: &[u8], marks: bool, command: Command) -> Moved
     requires { ⌜ 64 ≤ length (now body) ⌝ }
-    ensures { λ r. ⌜ r ≡ call-record craft (now (body .entry)) marks command ⌝ }
+    ensures { λ r. ⌜ ((craft : Craft) → settled craft r ≡ called (checked guidance (now (body .entry)) marks) craft command) ⌝ }
 {
-    let guidance = craft.guidance;
-    let ready = checked(guidance, body, marks);
-    match ready {
-        Ready::Call(g, dt, state) => guided(g.guide(dt, state, command)),
-        Ready::Refused(refusal) => refuse(craft, refusal),
-    }
-}
-
-fn rate(craft: Craft) -> Verdict
-    ensures { λ r. ⌜ r ≡ rate-record craft (craft .guidance) ⌝ }
-{
-    let guidance = craft.guidance;
-    let Guidance::Configured(_) = guidance else {
-        return refuse(craft, Refusal::NotConfigured);
-    };
-    refuse(craft, Refusal::Rate)
-}
-
-fn wind(craft: Craft) -> Verdict
-    ensures { λ r. ⌜ r ≡ wind-record craft (craft .guidance) ⌝ }
-{
-    let guidance = craft.guidance;
     let Guidance::Configured(g) = guidance else {
-        return refuse(craft, Refusal::NotConfigured);
+        return refuse(Refusal::NotConfigured);
+    };
+    if !marks {
+        return refuse(Refusal::Mark);
+    }
+    let dt = crate::read::read_f32(body, 0);
+    if !time_step_ok(dt) {
+        return refuse(Refusal::TimeStep);
+    }
+    let state = crate::read::read_state(body, 4);
+    if heading_ok(state.heading_rad) {
+        return guided(g.guide(dt, state, command));
+    }
+    refuse(Refusal::Heading)
+}
+
+fn rate(guidance: Guidance) -> Moved
+    ensures { λ r. ⌜ ((craft : Craft) → settled craft r ≡ rate-record craft guidance) ⌝ }
+{
+    let Guidance::Configured(_) = guidance else {
+        return refuse(Refusal::NotConfigured);
+    };
+    refuse(Refusal::Rate)
+}
+
+fn wind(guidance: Guidance) -> Moved
+    ensures { λ r. ⌜ ((craft : Craft) → settled craft r ≡ wind-record craft guidance) ⌝ }
+{
+    let Guidance::Configured(g) = guidance else {
+        return refuse(Refusal::NotConfigured);
     };
     let reading = g.wind();
     let Filter::Estimate(estimate) = reading else {
-        return Verdict {
-            craft,
-            answer: Answer::NoWind,
-        };
+        return Moved::Kept(Answer::NoWind);
     };
-    Verdict {
-        craft,
-        answer: Answer::Wind(estimate),
-    }
+    Moved::Kept(Answer::Wind(estimate))
 }
 
 // How many bytes follow the kind.
@@ -290,27 +252,82 @@ fn order_of(kind: u8, body: &[u8]) -> Order
 }
 
 // A record of a known kind, over its whole body.
-fn of_kind(kind: u8, craft: Craft, body: &[u8]) -> Verdict
+fn of_kind(kind: u8, guidance: Guidance, body: &[u8]) -> Moved
     requires { ⌜ 1 ≤ kind ⌝ }
     requires { ⌜ kind ≤ 9 ⌝ }
     requires { ⌜ body-length kind ≤ length (now body) ⌝ }
-    ensures { λ r. ⌜ r ≡ of-kind kind craft (now (body .entry)) ⌝ }
+    ensures { λ r. ⌜ settled (holding guidance) r ≡ of-kind kind (holding guidance) (now (body .entry)) ⌝ }
 {
     if kind == 1 {
-        return configure(craft, body);
+        return configure(body);
     }
     if kind == 2 {
-        return prime(craft, body);
+        return prime(guidance, body);
     }
     if kind == 4 {
-        return rate(craft);
+        return rate(guidance);
     }
     if kind == 9 {
-        return wind(craft);
+        return wind(guidance);
     }
     let order = order_of(kind, body);
     let command = order.command;
-    call(craft, body, order.marks, command)
+    call(guidance, body, order.marks, command)
+}
+
+// A record that takes no byte.
+fn refused(refusal: Refusal) -> Judged
+    ensures { λ r. ⌜ r ≡ untaken refusal ⌝ }
+{
+    Judged {
+        moved: refuse(refusal),
+        taken: 0,
+    }
+}
+
+// The record at the start of some bytes, where there is room for its answer.
+fn judge(guidance: Guidance, bytes: &[u8]) -> Judged
+    ensures { λ r. ⌜ ((buffer : List ℕ) → 25 ≤ length buffer → answered (settled (holding guidance) (r .moved)) (r .taken) buffer ≡ step (holding guidance) (now (bytes .entry)) buffer) ⌝ }
+{
+    if bytes.len() == 0 {
+        return refused(Refusal::Short);
+    }
+    let kind = bytes[0];
+    if kind < 1 {
+        return refused(Refusal::Kind);
+    }
+    if 9 < kind {
+        return refused(Refusal::Kind);
+    }
+    let needed = body_length(kind);
+    if bytes.len() - 1 < needed {
+        return refused(Refusal::Short);
+    }
+    let end = needed + 1;
+    Judged {
+        moved: of_kind(kind, guidance, &bytes[1..end]),
+        taken: end,
+    }
+}
+
+fn answer_of(moved: Moved) -> Answer
+    ensures { λ r. ⌜ r ≡ answer-of moved ⌝ }
+{
+    match moved {
+        Moved::To(_, answer) => answer,
+        Moved::Kept(answer) => answer,
+    }
+}
+
+fn craft_of(craft: Craft, moved: Moved) -> Craft
+    ensures { λ r. ⌜ r ≡ craft-of craft moved ⌝ }
+{
+    let Moved::To(g, _) = moved else {
+        return craft;
+    };
+    Craft {
+        guidance: Guidance::Configured(g),
+    }
 }
 
 // Handles one record: the bytes from its kind on, and the buffer that its answer is lent.
@@ -325,36 +342,15 @@ pub fn record(craft: Craft, bytes: &[u8], out: &mut [u8]) -> Handled
             written: 0,
         };
     }
-    if bytes.len() == 0 {
-        return answered(refuse(craft, Refusal::Short), 0, out);
-    }
-    let kind = bytes[0];
-    if kind < 1 {
-        return answered(refuse(craft, Refusal::Kind), 0, out);
-    }
-    if 9 < kind {
-        return answered(refuse(craft, Refusal::Kind), 0, out);
-    }
-    let needed = body_length(kind);
-    if bytes.len() - 1 < needed {
-        return answered(refuse(craft, Refusal::Short), 0, out);
-    }
-    let end = needed + 1;
-    answered(of_kind(kind, craft, &bytes[1..end]), end, out)
-}
-
-// A verdict written to the buffer.
-fn answered(verdict: Verdict, taken: usize, out: &mut [u8]) -> Handled
-    requires { ⌜ 25 ≤ length (now out) ⌝ }
-    ensures { λ r. ⌜ reported r (now (out .exit)) ≡ answered verdict taken (now (out .entry)) ⌝ }
-{
-    let craft = verdict.craft;
-    let answer = verdict.answer;
+    let guidance = craft.guidance;
+    let judged = judge(guidance, bytes);
+    let moved = judged.moved;
+    let answer = answer_of(moved);
     let written = crate::write::write_answer(answer, out);
     Handled {
-        craft,
+        craft: craft_of(craft, moved),
         answer,
-        taken,
+        taken: judged.taken,
         written,
     }
 }

@@ -2,6 +2,7 @@
 // rotors' momentum drag.
 use math::vectors::Vec2;
 ghost use mathlib.Core.Path.{_≡_};
+ghost use Rattle.math.specs.Math.{zero};
 ghost use Rattle.wind.specs.Drag.{is-on, axis-drag, push, slope, newton-step, still-air, against, air-velocity, drag-along, drag};
 
 // Sea-level air density, in kg/m³.
@@ -81,7 +82,19 @@ impl AxisDrag {
     pub fn drag_along(self, air_mps: f32) -> f32
         ensures { λ r. ⌜ r ≡ drag-along self «air_mps» ⌝ }
     {
-        -self.push_mps2(air_mps, 0.0) * floats::compare::signum(air_mps)
+        -self.level_push_mps2(air_mps) * floats::compare::signum(air_mps)
+    }
+
+    // The push with no velocity along the thrust axis: the airspeed is then the size of the air
+    // velocity.
+    fn level_push_mps2(self, air_mps: f32) -> f32
+        ensures { λ r. ⌜ r ≡ push self «air_mps» zero ⌝ }
+    {
+        let size_mps = floats::compare::abs(air_mps);
+        if math::has_plain_square(size_mps) {
+            return (self.k_per_m * size_mps + self.mu_per_s) * size_mps;
+        }
+        self.push_mps2(air_mps, 0.0)
     }
 
     // The size of the drag's acceleration.

@@ -12,6 +12,8 @@ pub mod Leading
 pub mod Midpoint
 pub mod Nearest
 pub mod Pattern
+pub mod Square
+pub mod Limit
 use mathlib.Core.Path.{_≡_, refl, sym, ap, _∙_, subst, subst₂}
 use mathlib.Core.Bool.{false, not}
 use Prim.Native.Nat.{ℕ, _*_, _≤_, _<_}

@@ -1,42 +1,27 @@
 -- A wrapped finite angle is at least -π and below π, and one that is not finite wraps to a NaN. Assumes nothing.
-use mathlib.Core.Path.{_≡_, refl, sym, ap, _∙_}
+use mathlib.Core.Path.{_≡_, refl}
 use mathlib.Core.Bool.{Bool, true, false, not}
 use mathlib.Core.Logic.{_⊎_, inl, inr, ⊎-elim}
 use Prim.Native.Nat.{ℕ, zero as zeroℕ, suc, _*_, _%_, _^_, _≤_, _<_}
-use native.Mathlib.Nat.{mod-lt, mod-eq-of-lt, mul-pos, mul-assoc, mul-right-comm}
+use native.Mathlib.Nat.{mod-lt}
 use native.Mathlib.Omega.{arith}
 use lib.Dec.{T, not-T, leb, leb→le, nleb→lt, lit<}
 use lib.Pow.{pow-pos}
-use lib.Ieee.{Float, nan, inf, fin, Format, binary32, round, neg, add, sub, rem, lt, le, fits, isNan, ofBits}
+use lib.Ieee.{Float, nan, inf, fin, binary32, round, neg, add, sub, rem, lt, le, fits, isNan, ofBits}
 use lib.Ieee.Bits.{is-true, is-false}
-use lib.Ieee.Exact.{HasValue}
 use lib.Ieee.Fits.{add-fits}
 use lib.Ieee.Positive.{num, den, den-pos}
 use lib.Ieee.Scale.{finite}
 use Rattle.floats.specs.Ops.{f32, _⊕_, _⊖_}
 use Rattle.floats.specs.Compare.{abs, isNegative}
 use Rattle.floats.proofs.Laws.Order.{finite→number, le-or-lt, lt→le, lt-excludes, le-lt-trans, finite-between}
-use Rattle.floats.proofs.Laws.Round.{AtMost, Less, fractions-of-lt, own-fraction, value-same, le-of-fractions, round-of-value, round-zero, round-nonneg, round-at-most, round-at-least, round-below}
+use Rattle.floats.proofs.Laws.Round.{AtMost, Less, fractions-of-lt, own-fraction, le-of-fractions, round-zero, round-nonneg, round-at-most, round-at-least, round-below}
 use Rattle.floats.proofs.Laws.Fractions.{rem-rounds}
 use Rattle.floats.proofs.Laws.Grid.{large-on-grid}
+use Rattle.floats.proofs.Laws.Remainder.{rem-of-smaller}
 use Rattle.floats.proofs.Laws.Sum.{add-mono, sub-mono, add-finite, add-finite-number, number-sub}
 use Rattle.math.specs.Math.{zero, pi, tau, rem-euclid, wrap-angle}
 use Rattle.math.proofs.Laws.Largest.{le-largest, largest}
-
--- ---- a value below the divisor in size is its own remainder
-
-wider : (x : Float) (c : ℕ) → T (finite x) → HasValue x (isNegative x) (num x * c) (den x * c)
-wider x c q =
-    value-same x (isNegative x) (num x) (den x) (num x * c) (den x * c) (den-pos x) (sym (mul-assoc (num x) (den x) c) ∙ mul-right-comm (num x) (den x) c) (own-fraction x q)
-
-rem-below : (f : Format) (x y : Float) (t : Bool) (b c : ℕ) → T (fits f x) → T (finite x) → 0 < c → 0 < b → HasValue y t b c → num x * c < b * den x → rem f x y ≡ x
-rem-below f x y t b c p q C B v h =
-    let D = mul-pos (den-pos x) C in
-    let s = isNegative x in
-    rem-rounds f x y s (num x * c) t (b * den x) (den x * c) D (mul-pos B (den-pos x)) (wider x c q)
-    (value-same y t b c (b * den x) (den x * c) C (sym (mul-assoc b (den x) c)) v)
-    ∙ ap (λ (z : ℕ). round f s z (den x * c)) (mod-eq-of-lt h)
-    ∙ round-of-value f x s (num x * c) (den x * c) D p (wider x c q)
 
 -- ---- the remainder by 2π
 
@@ -100,7 +85,7 @@ rem-within y p q n = go (leb (2 ^ 23 * den y) (num y * 2 ^ 21)) (leb→le (2 ^ 2
         rw (rem-rounds binary32 y tau (isNegative y) (g .0) false 13176795 (2 ^ 21) (pow-pos 21) (lit< tt) (g .1) (refl, refl))
         (rounded-within (isNegative y) (g .0 % 13176795) (mod-lt (g .0) (lit< tt)))
     go false large small =
-        rw (rem-below binary32 y tau false 13176795 (2 ^ 21) p q (pow-pos 21) (lit< tt) (refl, refl) (omega (arith, small tt)))
+        rw (rem-of-smaller binary32 y tau false 13176795 (2 ^ 21) p q (pow-pos 21) (lit< tt) (refl, refl) (omega (arith, small tt)))
         (small-within y q n (small tt))
 
 rem-euclid-range : (y : Float) → T (fits binary32 y) → T (finite y) → (T (lt y zero) → T (le y nearest-below-zero))

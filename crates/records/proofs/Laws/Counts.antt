@@ -26,11 +26,10 @@ use Rattle.records.specs.declared.answer.Refusal.{Refusal}
 use Rattle.records.specs.declared.answer.Refusal.the-variants.{Field, TimeStep, Heading, Rate, Kind, Short, NotConfigured, Mark, NoRoom}
 use Rattle.records.specs.declared.answer.Answer.{Answer}
 use Rattle.records.specs.declared.answer.Answer.the-variants.{Attitude, BodyRate, Refused, Done, NoWind, Wind}
-use Rattle.records.specs.declared.step.Ready.the-variants as readiness
-use Rattle.records.specs.declared.step.Verdict.{Verdict}
+use Rattle.records.specs.Ready as readiness
 use Rattle.records.specs.Answer.{setpoint-bytes, refusal-bytes, answer-bytes}
 use Rattle.records.specs.Read.{byte-at, float-at, state-at}
-use Rattle.records.specs.Step.{Outcome, lowest, time-step-ok, heading-ok, marks-ok, refuse, guided, setpoint-answer, configure, prime-record, checked, called, rate-record, wind-answer, wind-record, of-kind, body-length, answered, with-kind, step}
+use Rattle.records.specs.Step.{Verdict, Outcome, lowest, time-step-ok, heading-ok, marks-ok, refuse, guided, setpoint-answer, configure, prime-record, checked, called, rate-record, wind-answer, wind-record, of-kind, body-length, answered, with-kind, step}
 use Rattle.records.specs.Flight.{ends-flight, cut-short}
 
 -- ---- what a record comes to

@@ -33,12 +33,11 @@ use Rattle.records.specs.declared.answer.Refusal.{Refusal}
 use Rattle.records.specs.declared.answer.Refusal.the-variants.{Field, TimeStep, Heading, Rate, Kind, Short, NotConfigured, Mark, NoRoom}
 use Rattle.records.specs.declared.answer.Answer.{Answer}
 use Rattle.records.specs.declared.answer.Answer.the-variants.{Done}
-use Rattle.records.specs.declared.step.Ready.the-variants as readiness
-use Rattle.records.specs.declared.step.Verdict.{Verdict}
+use Rattle.records.specs.Ready as readiness
 use Rattle.records.specs.Answer.{answer-bytes}
 use Rattle.records.specs.Craft.{unconfigured}
 use Rattle.records.specs.Read.{float-at, state-at, attitude-command, waypoint-command, absolute-attitude-command, land-command, absolute-rate-command}
-use Rattle.records.specs.Step.{configured, lowest, time-step-ok, heading-ok, marks-ok, refuse, setpoint-answer, guided, configure, prime-record, checked, called, rate-record, wind-answer, wind-record, of-kind, body-length, Outcome, answered, reported, with-kind, step}
+use Rattle.records.specs.Step.{Verdict, configured, lowest, time-step-ok, heading-ok, marks-ok, refuse, setpoint-answer, guided, configure, prime-record, checked, called, rate-record, wind-answer, wind-record, of-kind, body-length, Outcome, answered, reported, with-kind, step}
 use Rattle.records.specs.Feed.{Entry, reply, outcome, after, replies, Link, Fed, given-back, port-replies, kind-of, body-of, is-refusal, Ending, heading-of, Priming, fresh-guidance, made-fresh, reset-guidance, reset, heading-held, wind-held, above-ground, SameWind, WholeFeeds}
 
 -- ---- crafts that differ in no more than what cannot be read

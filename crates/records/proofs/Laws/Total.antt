@@ -26,10 +26,9 @@ use Rattle.records.specs.declared.craft.Craft.{Craft}
 use Rattle.records.specs.declared.answer.Answer.{Answer}
 use Rattle.records.specs.declared.answer.Answer.the-variants.{Attitude, BodyRate, Refused, Done, NoWind, Wind}
 use Rattle.records.specs.declared.answer.Refusal.the-variants.{TimeStep, Heading}
-use Rattle.records.specs.declared.step.Ready.the-variants as readiness
-use Rattle.records.specs.declared.step.Verdict.{Verdict}
+use Rattle.records.specs.Ready as readiness
 use Rattle.records.specs.Read.{byte-at, float-at, state-at}
-use Rattle.records.specs.Step.{Outcome, lowest, time-step-ok, heading-ok, marks-ok, setpoint-answer, guided, configure, prime-record, checked, called, rate-record, wind-answer, wind-record, of-kind, body-length, answered, with-kind, step}
+use Rattle.records.specs.Step.{Verdict, Outcome, lowest, time-step-ok, heading-ok, marks-ok, setpoint-answer, guided, configure, prime-record, checked, called, rate-record, wind-answer, wind-record, of-kind, body-length, answered, with-kind, step}
 
 -- ---- what is accepted
 

@@ -19,9 +19,8 @@ use Rattle.copter.specs.Guide.{absolute-attitude-call, guide-call}
 use Rattle.copter.specs.declared.memory.CopterGuidance.{CopterGuidance}
 use Rattle.records.specs.declared.craft.Craft.{Craft}
 use Rattle.records.specs.declared.answer.Refusal.the-variants.{TimeStep}
-use Rattle.records.specs.declared.step.Verdict.{Verdict}
 use Rattle.records.specs.Read.{float-at, state-at, absolute-attitude-command}
-use Rattle.records.specs.Step.{configured, time-step-ok, heading-ok, refuse, setpoint-answer, guided, checked, called, of-kind, body-length, answered, with-kind, step}
+use Rattle.records.specs.Step.{Verdict, configured, time-step-ok, heading-ok, refuse, setpoint-answer, guided, checked, called, of-kind, body-length, answered, with-kind, step}
 use Rattle.records.specs.Feed.{Entry, outcome, body-of}
 use Rattle.records.specs.Worked.{CallWith, CallAccepted, CallRefused, WorkedFlights}
 use Rattle.records.proofs.Laws.Examples.{examples}

@@ -5,12 +5,14 @@ use Prim.Native.Nat.{ℕ, zero, suc, _+_, _*_, _^_, _<_, zero-le}
 use native.Mathlib.Nat.{le-trans, le-of-eq, zero-mul, lt-of-lt-of-le, le-add-left, eq-zero-or-pos}
 use mathlib.Core.Logic.{_⊎_, inl, inr}
 use lib.Dec.{T, ltb, eqb, lt→ltb}
-use lib.Ieee.{Float, nan, inf, fin, Format, prec, emax, low, up, down, odd, units, round, le, eq, isNan}
+use lib.Ieee.{Float, nan, inf, fin, Format, prec, emax, low, up, down, odd, units, round, le, eq, isNan, fits, top, toBits}
 use lib.Ieee.Scale.{finite}
 use lib.Ieee.Order.{le-of-values}
+use lib.Ieee.Positive.{positive}
 use lib.Ieee.Fits.{round-is, and-i, eq→eqb, down-pos}
-use Rattle.floats.specs.Compare.{isNegative}
+use Rattle.floats.specs.Compare.{isNegative, abs}
 use Rattle.floats.specs.Sqrt.{scale, rootOf}
+use Rattle.floats.proofs.Laws.Sign.{size-below-top}
 use Rattle.floats.proofs.Laws.Sqrt.Bounds.{rounded}
 use Rattle.floats.proofs.Laws.Sqrt.Special.{zero as +0, zero-digits}
 
@@ -29,6 +31,18 @@ pub unsigned-not-negative : (z : Float) → T (unsigned z) → T (isNegative z) 
 unfolding isNegative
 unsigned-not-negative (inf false) u t = t
 unsigned-not-negative (fin false m e) u t = t
+
+pub unsigned-of-positive : (z : Float) → T (positive z) → T (unsigned z)
+unsigned-of-positive (fin false m e) p = tt
+
+pub positive-number : (z : Float) → T (positive z) → T (not (isNan z))
+positive-number z p = unsigned-number z (unsigned-of-positive z p)
+
+-- its pattern has no sign's bit
+pub unsigned-bits : (f : Format) (z : Float) → T (fits f z) → T (unsigned z) → toBits f z < top f
+unfolding abs
+unsigned-bits f (inf false) fit u = size-below-top f (inf false) fit
+unsigned-bits f (fin false m e) fit u = size-below-top f (fin false m e) fit
 
 -- ---- `round f false` and the root
 odd-unsigned : (d q k l : ℕ) → T (unsigned (odd d false q k l))

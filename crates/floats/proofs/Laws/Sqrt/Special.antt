@@ -2,15 +2,16 @@
 use mathlib.Core.Path.{_≡_, refl, sym, ap, ap₂, _∙_, subst}
 use mathlib.Core.Logic.{_⊎_, inl, inr}
 use mathlib.Core.Bool.{Bool, true, false, not, _||_, Bool·beq, cond}
-use Prim.Native.Nat.{ℕ, _+_, _*_, _<_}
-use native.Mathlib.Nat.{lt-irrefl, lt-of-lt-of-le, eq-zero-or-pos, zero-mul, mul-pos, not-suc-le-zero, le-add-right}
+use Prim.Native.Nat.{ℕ, _+_, _*_, _<_, _≤_}
+use native.Mathlib.Nat.{lt-irrefl, lt-of-lt-of-le, eq-zero-or-pos, zero-mul, mul-pos, not-suc-le-zero, le-add-right, le-trans, mod-le}
 use lib.IntN.{ℤ, pos}
 use lib.Dec.{T, eqb, ltb→lt, lt→ltb, eqb→eq, not-T, T-not}
-use lib.Ieee.{Float, nan, inf, fin, Format, up, down, isNan, fits, lt, eq}
+use lib.Ieee.{Float, nan, inf, fin, Format, up, down, isNan, fits, lt, eq, hid, ones, top, nanBits}
 use lib.Ieee.Fits.{up-pos, down-pos, and-i, and-l, eq→eqb, cond-fits, nan-fits, round-fits}
 use lib.Ieee.Bits.{is-true, cond-no}
 use lib.Ieee.Positive.{num, den, positive, above, first-pos}
 use Rattle.floats.specs.Sqrt.{scale, rootOf, sqrt}
+use Rattle.floats.proofs.Laws.Special.{up-to-infinity}
 use Rattle.floats.proofs.Laws.Sqrt.Bounds.{rounded}
 
 abbrev pub zero : Float
@@ -131,3 +132,7 @@ above-of-positive (fin false m e) p = p
 pub positive-or-infinite : (x : Float) → T (above x) → T (positive x) ⊎ (x ≡ inf false)
 positive-or-infinite (inf false) a = inr refl
 positive-or-infinite (fin false m e) a = inl a
+
+-- a pattern up to infinity's is no NaN's
+pub upto-infinity : (f : Format) (n : ℕ) → n ≤ ones f * hid f → T (not (nanBits f n))
+upto-infinity f n h = rw (up-to-infinity f n (le-trans (mod-le n (top f)) h)) tt

@@ -108,12 +108,15 @@ loop-holds c =
 abbrev stood : tie.At-loop Inv-loop μ-loop → Flight
 stood c = standing (c .loop .craft) (c .loop .taken) (c .loop .written) false (c .loop .out)
 
-abbrev stood-after : tie.After-record Inv-loop μ-loop → Bool → Flight
-stood-after c ended =
+abbrev standing-after : tie.After-record Inv-loop μ-loop → Craft → Bool → Flight
+standing-after c craft ended =
     let head = c .before .before .before .before .before .before .loop in
     let handled = c .«record» .result in
-    standing (handled .craft) (head .taken + handled .taken) (head .written + handled .written) ended
+    standing craft (head .taken + handled .taken) (head .written + handled .written) ended
     (take (head .written) (head .out) ++ (c .«record» .last .1 .1 .0 ++ drop (length (head .out) - head .written) (drop (head .written) (head .out))))
+
+abbrev stood-after : tie.After-record Inv-loop μ-loop → Bool → Flight
+stood-after c ended = standing-after c (c .«record» .result .craft) ended
 
 waits-said : (c : tie.After-waits Inv-loop μ-loop) →
     let head = c .before .before in
@@ -147,14 +150,17 @@ stands-after c =
     subst (Stands (now (args .bytes)) (length (now (args .out)))) (sym (further c))
     (next-stood (now (args .bytes)) (args .last) (set-out (args .before) (now (args .out))) (stood head) (head .loop .inv) refl (ready (c .before .before .before)))
 
--- the same with what the test of the answer said
+-- the same with the craft made anew, which is the same craft, and with what the test of the answer said
 came : (c : tie.After-ends-flight Inv-loop μ-loop) (ended : Bool) → c .ends-flight .result ≡ ended →
-    let handled = c .before .before .before .before .before .before in
+    let renewed = c .before .before .before in
+    let handled = renewed .before .before .before in
     let head = handled .before .before .before .before .before .before in
-    stood-after handled ended ≡ next (now (head .before .before .before .args .bytes)) (stood head)
+    standing-after handled (renewed .renewed .result) ended ≡ next (now (head .before .before .before .args .bytes)) (stood head)
 came c ended said =
-    let handled = c .before .before .before .before .before .before in
-    ap (stood-after handled) (sym said ∙ c .ends-flight .ensures) ∙ further handled
+    let renewed = c .before .before .before in
+    let handled = renewed .before .before .before in
+    ap (λ (craft : Craft). standing-after handled craft ended) (renewed .renewed .ensures)
+    ∙ (ap (stood-after handled) (sym said ∙ c .ends-flight .ensures) ∙ further handled)
 
 sub-waits : tie.Need-sub-waits Inv-loop μ-loop
 sub-waits c = omega arith
@@ -191,6 +197,9 @@ part-record-end-2 c = omega arith
 
 record-requires : tie.Need-record-requires Inv-loop μ-loop
 record-requires c κs = tt
+
+renewed-requires : tie.Need-renewed-requires Inv-loop μ-loop
+renewed-requires c κs = tt
 
 add-taken : tie.Need-add-taken Inv-loop μ-loop
 add-taken c = omega (arith, stands-after (c .before .before .before .before) .within)
@@ -268,6 +277,7 @@ fly-spec =
     part-record-start-2
     part-record-end-2
     record-requires
+    renewed-requires
     add-taken
     add-written
     ends-flight-requires

@@ -1,14 +1,64 @@
--- `records::step::call` meets its contract. Assumes nothing.
 use borrow.Author.Needs.{needs}
-use Rattle.records.specs.Step.{called}
+use mathlib.Core.Path.{_∙_}
+use Rattle.records.specs.Step.{checked, called, answer-of, craft-of}
 use Rattle.records.proofs.step.call.Statement.{statement}
 use Rattle.records.proofs.step.call.Tie as tie
+use Rattle.records.proofs.step.call.Reads as reads
+use Rattle.records.proofs.step.call.Lts as lts
+use Rattle.copter.proofs.memory.CopterGuidance.guide.Reads as guide-reads
+use Rattle.records.proofs.read.read_f32.Reads as read-f32-reads
+use Rattle.records.proofs.read.read_state.Reads as read-state-reads
+use Rattle.records.proofs.step.guided.Reads as guided-reads
+use Rattle.records.proofs.step.heading_ok.Reads as heading-ok-reads
+use Rattle.records.proofs.step.refuse.Reads as refuse-reads
+use Rattle.records.proofs.step.time_step_ok.Reads as time-step-ok-reads
 
-checked-requires : tie.Need-checked-requires
-checked-requires c κs = search needs
+enum-known-guidance : tie.Need-enum-known-guidance
+enum-known-guidance c = search needs
 
-enum-known-ready : tie.Need-enum-known-ready
-enum-known-ready c = search needs
+enum-told : tie.Need-enum-told
+enum-told c = search needs
+
+refuse-requires : tie.Need-refuse-requires
+refuse-requires c κs = search needs
+
+returns : tie.Need-returns
+unfolding checked called answer-of craft-of
+returns c craft = rw (c .refuse .ensures, c .before .enum-told .given .1)
+
+refuse-requires-2 : tie.Need-refuse-requires-2
+refuse-requires-2 c κs = search needs
+
+returns-2 : tie.Need-returns-2
+unfolding checked called answer-of craft-of
+returns-2 c craft = rw (c .refuse2 .ensures, c .before .before .before .guidance .given .1, c .before .if1 .taken)
+
+read-f32-requires : tie.Need-read-f32-requires
+read-f32-requires c κs = search needs
+
+time-step-ok-requires : tie.Need-time-step-ok-requires
+time-step-ok-requires c κs = search needs
+
+refuse-requires-3 : tie.Need-refuse-requires-3
+refuse-requires-3 c κs = search needs
+
+returns-3 : tie.Need-returns-3
+unfolding checked called answer-of craft-of
+returns-3 c craft =
+    rw (
+      c .refuse3 .ensures,
+      c .before .before .before .before .before .before .guidance .given .1,
+      c .before .before .before .before .if1 .left,
+      ← c .before .before .before .read-f32 .ensures,
+      ← c .before .before .time-step-ok .ensures,
+      c .before .if2 .taken,
+    )
+
+read-state-requires : tie.Need-read-state-requires
+read-state-requires c κs = search needs
+
+heading-ok-requires : tie.Need-heading-ok-requires
+heading-ok-requires c κs = search needs
 
 guide-requires : tie.Need-guide-requires
 guide-requires c κs = search needs
@@ -16,35 +66,58 @@ guide-requires c κs = search needs
 guided-requires : tie.Need-guided-requires
 guided-requires c κs = search needs
 
-enum-known-ready-2 : tie.Need-enum-known-ready-2
-enum-known-ready-2 c = search needs
-
-refuse-requires : tie.Need-refuse-requires
-refuse-requires c κs = search needs
-
-returns : tie.Need-returns
-unfolding called
-returns c =
-    rw (
-      ← c .before .before .before .before .before .checked .ensures,
-      c .before .before .before .ready .given .1,
-      c .guided .ensures,
+returns-4 : tie.Need-returns-4
+unfolding checked called answer-of craft-of
+returns-4 c craft =
+    c .guided .ensures craft
+    ∙ rw (
+      c .before .before .before .before .before .before .before .before .before .before .guidance .given .1,
+      c .before .before .before .before .before .before .before .before .if1 .left,
+      ← c .before .before .before .before .before .before .before .read-f32 .ensures,
+      ← c .before .before .before .before .before .before .time-step-ok .ensures,
+      c .before .before .before .before .before .if2 .left,
+      ← c .before .before .before .before .read-state .ensures,
+      ← c .before .before .before .heading-ok .ensures,
+      c .before .before .if3 .taken,
       c .before .guide .ensures,
     )
 
-returns-2 : tie.Need-returns-2
-unfolding called
-returns-2 c = rw (← c .before .before .before .before .checked .ensures, c .before .before .ready2 .given .1, c .refuse .ensures)
+refuse-requires-4 : tie.Need-refuse-requires-4
+refuse-requires-4 c κs = search needs
+
+returns-5 : tie.Need-returns-5
+unfolding checked called answer-of craft-of
+returns-5 c craft =
+    rw (
+      c .refuse4 .ensures,
+      c .before .before .before .before .before .before .before .before .before .guidance .given .1,
+      c .before .before .before .before .before .before .before .if1 .left,
+      ← c .before .before .before .before .before .before .read-f32 .ensures,
+      ← c .before .before .before .before .before .time-step-ok .ensures,
+      c .before .before .before .before .if2 .left,
+      ← c .before .before .before .read-state .ensures,
+      ← c .before .before .heading-ok .ensures,
+      c .before .if3 .left,
+    )
 
 pub call-spec : {M : Type 1} → statement M
 call-spec =
     tie.close
     (tie.spec
-    checked-requires
-    enum-known-ready
-    guide-requires
-    guided-requires
-    enum-known-ready-2
+    enum-known-guidance
+    enum-told
     refuse-requires
     returns
-    returns-2)
+    refuse-requires-2
+    returns-2
+    read-f32-requires
+    time-step-ok-requires
+    refuse-requires-3
+    returns-3
+    read-state-requires
+    heading-ok-requires
+    guide-requires
+    guided-requires
+    returns-4
+    refuse-requires-4
+    returns-5)

@@ -1,9 +1,14 @@
--- `records::step::configure` meets its contract. Assumes nothing.
 use borrow.Author.Needs.{needs}
 use borrow.Author.Tests.{le-leb, lt-leb}
-use Rattle.records.specs.Step.{configure}
+use Rattle.records.specs.Step.{configure, answer-of, craft-of}
 use Rattle.records.proofs.step.configure.Statement.{statement}
 use Rattle.records.proofs.step.configure.Tie as tie
+use Rattle.records.proofs.step.configure.Reads as reads
+use Rattle.records.proofs.step.configure.Lts as lts
+use Rattle.copter.proofs.memory.CopterGuidance.new.Reads as new-reads
+use Rattle.records.proofs.read.read_configuration.Reads as read-configuration-reads
+use Rattle.records.proofs.step.lowest_field.Reads as lowest-field-reads
+use Rattle.records.proofs.step.refuse.Reads as refuse-reads
 
 lowest-field-requires : tie.Need-lowest-field-requires
 lowest-field-requires c κs = search needs
@@ -12,8 +17,8 @@ refuse-requires : tie.Need-refuse-requires
 refuse-requires c κs = search needs
 
 returns : tie.Need-returns
-unfolding configure
-returns c = rw (c .refuse .ensures, ← c .before .before .lowest-field .ensures, le-leb _ 50 (c .before .if1 .taken))
+unfolding configure answer-of craft-of
+returns c craft = rw (c .refuse .ensures, ← c .before .before .lowest-field .ensures, le-leb _ 50 (c .before .if1 .taken))
 
 read-configuration-requires : tie.Need-read-configuration-requires
 read-configuration-requires c κs = search needs
@@ -22,8 +27,8 @@ new-requires : tie.Need-new-requires
 new-requires c κs = search needs
 
 returns-2 : tie.Need-returns-2
-unfolding configure
-returns-2 c =
+unfolding configure answer-of craft-of
+returns-2 c craft =
     rw (
       ← c .before .before .before .lowest-field .ensures,
       lt-leb _ 50 (c .before .before .if1 .left),

@@ -1,15 +1,17 @@
--- `records::step::guided` meets its contract. Assumes nothing.
 use borrow.Author.Needs.{needs}
-use Rattle.records.specs.Step.{guided}
+use Rattle.records.specs.Step.{guided, answer-of, craft-of}
 use Rattle.records.proofs.step.guided.Statement.{statement}
 use Rattle.records.proofs.step.guided.Tie as tie
+use Rattle.records.proofs.step.guided.Reads as reads
+use Rattle.records.proofs.step.guided.Lts as lts
+use Rattle.records.proofs.step.setpoint_answer.Reads as setpoint-answer-reads
 
 setpoint-answer-requires : tie.Need-setpoint-answer-requires
 setpoint-answer-requires c κs = search needs
 
 returns : tie.Need-returns
-unfolding guided
-returns c = rw (c .setpoint-answer .ensures)
+unfolding guided answer-of craft-of
+returns c craft = rw (c .setpoint-answer .ensures)
 
 pub guided-spec : {M : Type 1} → statement M
 guided-spec = tie.close (tie.spec setpoint-answer-requires returns)

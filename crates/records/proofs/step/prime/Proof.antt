@@ -1,10 +1,13 @@
--- `records::step::prime` meets its contract. Assumes nothing.
-use mathlib.Core.Path.{sym, ap, _∙_}
 use borrow.Author.Needs.{needs}
-use Rattle.records.specs.declared.craft.Guidance.{Guidance}
-use Rattle.records.specs.Step.{prime-record}
+use Rattle.records.specs.Step.{prime-record, answer-of, craft-of}
 use Rattle.records.proofs.step.prime.Statement.{statement}
 use Rattle.records.proofs.step.prime.Tie as tie
+use Rattle.records.proofs.step.prime.Reads as reads
+use Rattle.records.proofs.step.prime.Lts as lts
+use Rattle.copter.proofs.memory.CopterGuidance.prime.Reads as prime-reads
+use Rattle.records.proofs.read.read_state.Reads as read-state-reads
+use Rattle.records.proofs.step.heading_ok.Reads as heading-ok-reads
+use Rattle.records.proofs.step.refuse.Reads as refuse-reads
 
 enum-known-guidance : tie.Need-enum-known-guidance
 enum-known-guidance c = search needs
@@ -16,10 +19,8 @@ refuse-requires : tie.Need-refuse-requires
 refuse-requires c κs = search needs
 
 returns : tie.Need-returns
-unfolding prime-record
-returns c =
-    let args = c .before .before .before .before .args in
-    c .refuse .ensures ∙ sym (ap (λ (guidance : Guidance). prime-record (args .craft) guidance (args .body .now)) (c .before .enum-told .given .1))
+unfolding prime-record answer-of craft-of
+returns c craft = rw (c .refuse .ensures, c .before .enum-told .given .1)
 
 read-state-requires : tie.Need-read-state-requires
 read-state-requires c κs = search needs
@@ -31,8 +32,8 @@ prime-requires : tie.Need-prime-requires
 prime-requires c κs = search needs
 
 returns-2 : tie.Need-returns-2
-unfolding prime-record
-returns-2 c =
+unfolding prime-record answer-of craft-of
+returns-2 c craft =
     rw (
       c .before .before .before .before .before .guidance .given .1,
       ← c .before .before .before .read-state .ensures,
@@ -45,13 +46,15 @@ refuse-requires-2 : tie.Need-refuse-requires-2
 refuse-requires-2 c κs = search needs
 
 returns-3 : tie.Need-returns-3
-unfolding prime-record
-returns-3 c =
-    let args = c .before .before .before .before .before .before .before .before .args in
-    c .refuse2 .ensures
-    ∙ sym
-    (ap (λ (guidance : Guidance). prime-record (args .craft) guidance (args .body .now)) (c .before .before .before .before .before .guidance .given .1)
-    ∙ rw (← c .before .before .before .read-state .ensures, ← c .before .before .heading-ok .ensures, c .before .if1 .left))
+unfolding prime-record answer-of craft-of
+returns-3 c craft =
+    rw (
+      c .refuse2 .ensures,
+      c .before .before .before .before .before .guidance .given .1,
+      ← c .before .before .before .read-state .ensures,
+      ← c .before .before .heading-ok .ensures,
+      c .before .if1 .left,
+    )
 
 pub prime-spec : {M : Type 1} → statement M
 prime-spec =

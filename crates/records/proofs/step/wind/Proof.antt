@@ -1,9 +1,11 @@
--- `records::step::wind` meets its contract. Assumes nothing.
-use mathlib.Core.Path.{sym, ap, _∙_}
 use borrow.Author.Needs.{needs}
-use Rattle.records.specs.Step.{wind-record}
+use Rattle.records.specs.Step.{wind-record, answer-of, craft-of}
 use Rattle.records.proofs.step.wind.Statement.{statement}
 use Rattle.records.proofs.step.wind.Tie as tie
+use Rattle.records.proofs.step.wind.Reads as reads
+use Rattle.records.proofs.step.wind.Lts as lts
+use Rattle.copter.proofs.memory.CopterGuidance.wind.Reads as wind-reads
+use Rattle.records.proofs.step.refuse.Reads as refuse-reads
 
 enum-known-guidance : tie.Need-enum-known-guidance
 enum-known-guidance c = search needs
@@ -15,8 +17,8 @@ refuse-requires : tie.Need-refuse-requires
 refuse-requires c κs = search needs
 
 returns : tie.Need-returns
-unfolding wind-record
-returns c = c .refuse .ensures ∙ sym (ap (wind-record (c .before .before .before .args .craft)) (c .before .enum-told .given .1))
+unfolding wind-record answer-of craft-of
+returns c craft = rw (c .refuse .ensures, c .before .enum-told .given .1)
 
 wind-requires : tie.Need-wind-requires
 wind-requires c κs = search needs
@@ -28,12 +30,12 @@ enum-told-2 : tie.Need-enum-told-2
 enum-told-2 c = search needs
 
 returns-2 : tie.Need-returns-2
-unfolding wind-record
-returns-2 c = rw (c .before .before .before .before .guidance .given .1, ← c .before .before .wind .ensures, c .enum-told2 .given .1)
+unfolding wind-record answer-of craft-of
+returns-2 c craft = rw (c .before .before .before .before .guidance .given .1, ← c .before .before .wind .ensures, c .enum-told2 .given .1)
 
 returns-3 : tie.Need-returns-3
-unfolding wind-record
-returns-3 c = rw (c .before .before .before .before .before .guidance .given .1, ← c .before .before .before .wind .ensures, c .before .reading .given .1)
+unfolding wind-record answer-of craft-of
+returns-3 c craft = rw (c .before .before .before .before .before .guidance .given .1, ← c .before .before .before .wind .ensures, c .before .reading .given .1)
 
 pub wind-spec : {M : Type 1} → statement M
 wind-spec =

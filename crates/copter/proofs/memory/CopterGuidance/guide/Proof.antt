@@ -8,11 +8,13 @@ update-requires : tie.Need-update-requires
 update-requires c κs = search needs
 
 plan-requires : tie.Need-plan-requires
-unfolding wind-updated
-plan-requires c κs = rw (c .update .ensures)
+plan-requires c κs = search needs
 
 enum-known-plan : tie.Need-enum-known-plan
 enum-known-plan c = search needs
+
+turn-for-requires : tie.Need-turn-for-requires
+turn-for-requires c κs = search needs
 
 fly-to-requires : tie.Need-fly-to-requires
 fly-to-requires c κs = search needs
@@ -24,12 +26,25 @@ steer-requires : tie.Need-steer-requires
 steer-requires c κs = search needs
 
 returns : tie.Need-returns
-unfolding flown
-returns c = rw (← c .before .before .before .before .plan .ensures, c .before .before .plan2 .given .1, c .fly-to .ensures)
+unfolding flown wind-updated
+returns c =
+    rw (
+      ← c .before .before .before .before .before .plan .ensures,
+      c .before .before .before .plan2 .given .1,
+      ← c .before .before .before .before .before .before .update .ensures,
+      ← c .before .turn-for .ensures,
+      c .fly-to .ensures,
+    )
 
 returns-2 : tie.Need-returns-2
-unfolding flown
-returns-2 c = rw (← c .before .before .before .before .plan .ensures, c .before .before .plan3 .given .1, c .steer .ensures)
+unfolding flown wind-updated
+returns-2 c =
+    rw (
+      ← c .before .before .before .before .plan .ensures,
+      c .before .before .plan3 .given .1,
+      ← c .before .before .before .before .before .update .ensures,
+      c .steer .ensures,
+    )
 
 pub guide-spec : {M : Type 1} → statement M
 guide-spec =
@@ -38,6 +53,7 @@ guide-spec =
     update-requires
     plan-requires
     enum-known-plan
+    turn-for-requires
     fly-to-requires
     enum-known-plan-2
     steer-requires

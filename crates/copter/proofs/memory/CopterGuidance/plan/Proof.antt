@@ -36,7 +36,7 @@ absolute-rate-setpoint-requires c κs = search needs
 
 returns : tie.Need-returns
 unfolding flown steer steered guide-call attitude-call piloted
-returns c = rw (c .attitude-setpoint .ensures, c .before .before .command .given .1, c .before .before .before .before .pre)
+returns c = rw (c .attitude-setpoint .ensures, c .before .before .command .given .1)
 
 returns-2 : tie.Need-returns-2
 unfolding guide-call
@@ -44,7 +44,7 @@ returns-2 c = rw (c .before .before .command2 .given .1, c .waypoint-leg .ensure
 
 returns-3 : tie.Need-returns-3
 unfolding flown steer steered guide-call absolute-attitude-call piloted
-returns-3 c = rw (c .absolute-attitude-setpoint .ensures (c .before .before .before .before .args .dt), c .before .before .command3 .given .1, c .before .before .before .before .pre)
+returns-3 c = rw (c .absolute-attitude-setpoint .ensures (c .before .before .before .before .args .dt), c .before .before .command3 .given .1)
 
 returns-4 : tie.Need-returns-4
 unfolding guide-call
@@ -52,7 +52,7 @@ returns-4 c = rw (c .before .before .command4 .given .1, c .land-leg .ensures)
 
 returns-5 : tie.Need-returns-5
 unfolding flown steer steered guide-call absolute-rate-call piloted
-returns-5 c = rw (c .absolute-rate-setpoint .ensures (c .before .before .before .before .args .dt), c .before .before .command5 .given .1, c .before .before .before .before .pre)
+returns-5 c = rw (c .absolute-rate-setpoint .ensures (c .before .before .before .before .args .dt), c .before .before .command5 .given .1)
 
 pub plan-spec : {M : Type 1} → statement M
 plan-spec =

@@ -1,5 +1,6 @@
 -- `copter::memory::LateralMemory::run` meets its contract. Assumes nothing.
 use borrow.Author.Needs.{needs}
+use Rattle.math.specs.Math.{exceeds}
 use Rattle.copter.specs.Tilt.{run}
 use Rattle.copter.proofs.memory.LateralMemory.run.Statement.{statement}
 use Rattle.copter.proofs.memory.LateralMemory.run.Tie as tie
@@ -25,21 +26,21 @@ cap-magnitude-requires c κs = search needs
 ran-requires : tie.Need-ran-requires
 ran-requires c κs = search needs
 
-norm-requires : tie.Need-norm-requires
-norm-requires c κs = search needs
+exceeds-requires : tie.Need-exceeds-requires
+exceeds-requires c κs = search needs
 
 returns : tie.Need-returns
-unfolding run
+unfolding run exceeds
 returns c =
     rw (
-      ← c .before .before .before .before .before .before .before .before .before .before .limit-mps2 .ensures,
-      ← c .before .before .before .before .before .before .before .before .before .control .ensures,
-      ← c .before .before .before .before .before .before .drag-feedforward-mps2 .ensures,
-      ← c .before .before .before .before .before .plus .ensures,
-      ← c .before .before .before .before .tilt-for-acceleration .ensures,
-      ← c .before .before .before .cap-magnitude .ensures,
-      ← c .before .norm .ensures,
-      c .before .before .ran .ensures,
+      ← c .before .before .before .before .before .before .before .before .before .limit-mps2 .ensures,
+      ← c .before .before .before .before .before .before .before .before .control .ensures,
+      ← c .before .before .before .before .before .drag-feedforward-mps2 .ensures,
+      ← c .before .before .before .before .plus .ensures,
+      ← c .before .before .before .tilt-for-acceleration .ensures,
+      ← c .before .before .cap-magnitude .ensures,
+      c .exceeds .ensures,
+      c .before .ran .ensures,
     )
 
 pub run-spec : {M : Type 1} → statement M
@@ -53,5 +54,5 @@ run-spec =
     tilt-for-acceleration-requires
     cap-magnitude-requires
     ran-requires
-    norm-requires
+    exceeds-requires
     returns)

@@ -4,15 +4,15 @@ use Rattle.wind.specs.Drag.{drag-along}
 use Rattle.wind.proofs.drag.AxisDrag.drag_along.Statement.{statement}
 use Rattle.wind.proofs.drag.AxisDrag.drag_along.Tie as tie
 
-push-mps2-requires : tie.Need-push-mps2-requires
-push-mps2-requires c κs = search needs
+level-push-mps2-requires : tie.Need-level-push-mps2-requires
+level-push-mps2-requires c κs = search needs
 
 signum-requires : tie.Need-signum-requires
 signum-requires c κs = search needs
 
 returns : tie.Need-returns
 unfolding drag-along
-returns c = rw (c .before .push-mps2 .ensures, c .signum .ensures)
+returns c = rw (c .before .level-push-mps2 .ensures, c .signum .ensures)
 
 pub drag-along-spec : {M : Type 1} → statement M
-drag-along-spec = tie.close (tie.spec push-mps2-requires signum-requires returns)
+drag-along-spec = tie.close (tie.spec level-push-mps2-requires signum-requires returns)

@@ -71,12 +71,10 @@ fn ramped(config: CopterGuidanceConfig, dt: f32, limit_mps: f32, speed_mps: f32)
 fn descent_rate(config: CopterGuidanceConfig, height_m: f32) -> f32
     ensures { λ r. ⌜ r ≡ descent-rate config «height_m» ⌝ }
 {
-    floats::minmax::min(
-        math::shaped_closing_speed(
-            height_m,
-            config.altitude.gains.p,
-            config.guidance.descent_accel_mps2,
-        ),
+    math::limited_closing_speed(
+        height_m,
+        config.altitude.gains.p,
+        config.guidance.descent_accel_mps2,
         config.guidance.max_descent_mps,
     )
 }

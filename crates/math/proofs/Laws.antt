@@ -4,6 +4,7 @@ pub mod Closing
 pub mod Largest
 pub mod Length
 pub mod Limits
+pub mod Reached
 pub mod Thrust
 pub mod Worked
 pub mod Wrap

@@ -4,7 +4,7 @@ use mathlib.Core.Bool.{Bool, true, false, cond, _&&_, _||_}
 use lib.Ieee.{Float, binary32, isNan, neg, lt, le, eq, rem}
 use lib.Ieee.Scale.{finite}
 use Rattle.floats.specs.Ops.{f32, _⊕_, _⊖_, _⊗_, _⊘_}
-use Rattle.floats.specs.MinMax.{max, clamp}
+use Rattle.floats.specs.MinMax.{min, max, clamp}
 use Rattle.floats.specs.Sqrt.{sqrt}
 use Rattle.math.specs.declared.vectors.Vec2.{Vec2}
 use Rattle.math.specs.declared.vectors.Vec3.{Vec3}
@@ -124,6 +124,10 @@ braked-speed distance p accel =
 unfoldable pub shaped-closing-speed : Float → Float → Float → Float
 shaped-closing-speed distance p accel =
     cond (isNan distance || le distance zero) zero (braked-speed distance p (cond (lt zero accel) accel zero))
+
+-- the same, at most `limit`
+unfoldable pub limited-closing-speed : Float → Float → Float → Float → Float
+limited-closing-speed distance p accel limit = min (shaped-closing-speed distance p accel) limit
 
 -- ---- angles
 

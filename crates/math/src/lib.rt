@@ -8,7 +8,7 @@ use vectors::Vec3;
 ghost use mathlib.Core.Path.{_≡_};
 ghost use mathlib.Core.Bool.{true, false};
 ghost use lib.Ieee.{lt};
-ghost use Rattle.math.specs.Math.{zero, cap-magnitude, within, exceeds, RootWithin, RootBeyond, has-plain-square, saturate-unit, saturate-symmetric, clamp-symmetric, limit-or-zero, clamp-symmetric-each, all-finite, neu-to-ned, tilt-boost, saturate-throttle, guard-sink, shaped-closing-speed, braked-speed, wrap-angle, rem-euclid};
+ghost use Rattle.math.specs.Math.{zero, cap-magnitude, within, exceeds, RootWithin, RootBeyond, has-plain-square, saturate-unit, saturate-symmetric, clamp-symmetric, limit-or-zero, clamp-symmetric-each, all-finite, neu-to-ned, tilt-boost, saturate-throttle, guard-sink, shaped-closing-speed, limited-closing-speed, braked-speed, wrap-angle, rem-euclid};
 
 // v scaled down, keeping its direction, so that its length is at most `max`. A vector of no finite
 // length has no direction and becomes zero.
@@ -239,6 +239,37 @@ fn braked_speed(distance_m: f32, p: f32, accel_mps2: f32) -> f32
         return p * distance_m;
     }
     floats::sqrt::sqrtf(2.0 * accel_mps2 * (distance_m - linear_m / 2.0))
+}
+
+// `shaped_closing_speed`, but at most `limit_mps`. Where the squares tell that the limit is reached,
+// no root is taken.
+pub fn limited_closing_speed(distance_m: f32, p: f32, accel_mps2: f32, limit_mps: f32) -> f32
+    ensures { λ r. ⌜ r ≡ limited-closing-speed «distance_m» p «accel_mps2» «limit_mps» ⌝ }
+{
+    if surely_reaches(distance_m, p, accel_mps2, limit_mps) {
+        return limit_mps;
+    }
+    floats::minmax::min(shaped_closing_speed(distance_m, p, accel_mps2), limit_mps)
+}
+
+// Whether the squares tell without a root that the closing speed reaches `limit_mps`.
+fn surely_reaches(distance_m: f32, p: f32, accel_mps2: f32, limit_mps: f32) -> bool
+    ensures { λ r. ⌜ (r ≡ true → limited-closing-speed «distance_m» p «accel_mps2» «limit_mps» ≡ «limit_mps») ⌝ }
+{
+    if distance_m > 0.0 {
+        if p > 0.0 {
+            if accel_mps2 > 0.0 {
+                let linear_m = accel_mps2 / (p * p);
+                if linear_m < distance_m {
+                    if has_plain_square(limit_mps) {
+                        return limit_mps * limit_mps
+                            <= 2.0 * accel_mps2 * (distance_m - linear_m / 2.0);
+                    }
+                }
+            }
+        }
+    }
+    false
 }
 
 // An angle in radians wrapped to [-π, π); one that is not finite gives a NaN.

@@ -2,41 +2,20 @@
 use mathlib.Core.Path.{_≡_, refl}
 use mathlib.Core.Bool.{true, false, cond}
 use lib.Ieee.{Float}
-use Rattle.math.specs.Math.{all-finite}
 use Rattle.math.specs.declared.vectors.Vec2.{Vec2}
 use Rattle.wind.specs.declared.state.VehicleState.{VehicleState}
 use Rattle.wind.specs.declared.window.Filter.{Filter}
-use Rattle.altitude.proofs.Laws.Cases.{cond-holds}
 use Rattle.heading.specs.declared.HeadingConfig.{HeadingConfig}
 use Rattle.heading.specs.declared.Angle.{Angle}
 use Rattle.heading.specs.declared.Angle.the-variants.{Nothing, Rad}
 use Rattle.heading.specs.declared.wind_heading.WindTurn.{WindTurn}
-use Rattle.heading.specs.declared.leg_heading.LegMemory.{LegMemory}
-use Rattle.heading.specs.declared.leg_heading.LegMemory.the-variants as legs
 use Rattle.heading.specs.declared.leg_heading.LegHeading.{LegHeading}
 use Rattle.heading.specs.declared.leg_heading.Goal.{Goal}
 use Rattle.heading.specs.declared.leg_heading.Goal.the-variants.{Waypoint, Land}
 use Rattle.heading.specs.declared.leg_heading.Turn.{Turn}
-use Rattle.heading.specs.declared.leg_heading.Bearing.{Bearing}
 use Rattle.heading.specs.declared.leg_heading.Sighted.{Sighted}
-use Rattle.heading.specs.LegHeading.{fresh, cleared, with-wind, on-leg, new-leg, bearing-of, bearing, commanded-turn, along-leg, station-turn, wind-or-leg, here-of, uncommanded, target, held-or-turned, land-target, toward, commanded-angle, sighted}
-
--- ---- a look at the goal leaves the wind heading
-
-new-leg-keeps-wind : (self : LegHeading) (config : HeadingConfig) (position here : Vec2) → new-leg self config position here .memory .wind ≡ self .wind
-unfolding new-leg cleared
-new-leg-keeps-wind self config position here = cond-holds (λ (b : Bearing). b .memory .wind ≡ self .wind) (all-finite here) (λ _. refl) (λ _. refl)
-
-bearing-of-keeps-wind : (leg : LegMemory) (self : LegHeading) (config : HeadingConfig) (position here : Vec2)
-    → bearing-of leg self config position here .memory .wind ≡ self .wind
-unfolding bearing-of
-bearing-of-keeps-wind legs.Nothing self config position here = new-leg-keeps-wind self config position here
-bearing-of-keeps-wind (legs.Flown leg) self config position here =
-    cond-holds (λ (b : Bearing). b .memory .wind ≡ self .wind) (on-leg leg position) (λ _. refl) (λ _. new-leg-keeps-wind self config position here)
-
-pub bearing-keeps-wind : (self : LegHeading) (config : HeadingConfig) (position here : Vec2) → bearing self config position here .memory .wind ≡ self .wind
-unfolding bearing
-bearing-keeps-wind self config position here = bearing-of-keeps-wind (self .leg) self config position here
+use Rattle.heading.proofs.Laws.Side.{bearing-keeps-wind}
+use Rattle.heading.specs.LegHeading.{fresh, cleared, with-wind, bearing, commanded-turn, along-leg, station-turn, wind-or-leg, here-of, uncommanded, target, held-or-turned, land-target, toward, commanded-angle, sighted}
 
 -- ---- the heading where none is commanded
 

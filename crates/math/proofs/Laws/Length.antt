@@ -21,7 +21,7 @@ pub square-not-below : (v : Vec2) → lt (dot v v) zero ≡ false
 unfolding ofBits
 square-not-below v = is-false (lt (dot v v) zero) (squares-not-below binary32 (v .x) (v .y))
 
-holds : (b : Bool) → b ≡ true → T b
+pub holds : (b : Bool) → b ≡ true → T b
 holds b e = subst T (sym e) tt
 
 fails : (b : Bool) → b ≡ false → T (not b)
@@ -29,11 +29,11 @@ fails b e = subst (λ (a : Bool). T (not a)) (sym e) tt
 
 -- ---- a limit with a plain square is in the range of the laws on roots
 module _ (limit : Float) (plain : has-plain-square limit ≡ true) where
-  above-lowest : T (le lowest limit)
+  pub above-lowest : T (le lowest limit)
   unfolding has-plain-square ofBits le lt eq
   above-lowest = le-trans lowest (f32 0x33D6_BF95) limit tt (and-l (le (f32 0x33D6_BF95) limit) (le limit (f32 0x4B18_9680)) (holds (has-plain-square limit) plain))
 
-  below-highest : T (le limit highest)
+  pub below-highest : T (le limit highest)
   unfolding has-plain-square ofBits le lt eq
   below-highest = le-trans limit (f32 0x4B18_9680) highest (and-r (le (f32 0x33D6_BF95) limit) (le limit (f32 0x4B18_9680)) (holds (has-plain-square limit) plain)) tt
 

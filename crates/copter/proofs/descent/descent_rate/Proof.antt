@@ -1,18 +1,16 @@
 -- `copter::descent::descent_rate` meets its contract. Assumes nothing.
 use borrow.Author.Needs.{needs}
+use Rattle.math.specs.Math.{limited-closing-speed}
 use Rattle.copter.specs.Descent.{descent-rate}
 use Rattle.copter.proofs.descent.descent_rate.Statement.{statement}
 use Rattle.copter.proofs.descent.descent_rate.Tie as tie
 
-shaped-closing-speed-requires : tie.Need-shaped-closing-speed-requires
-shaped-closing-speed-requires c κs = search needs
-
-min-requires : tie.Need-min-requires
-min-requires c κs = search needs
+limited-closing-speed-requires : tie.Need-limited-closing-speed-requires
+limited-closing-speed-requires c κs = search needs
 
 returns : tie.Need-returns
-unfolding descent-rate
-returns c = rw (c .min .ensures, c .before .shaped-closing-speed .ensures)
+unfolding descent-rate limited-closing-speed
+returns c = c .limited-closing-speed .ensures
 
 pub descent-rate-spec : {M : Type 1} → statement M
-descent-rate-spec = tie.close (tie.spec shaped-closing-speed-requires min-requires returns)
+descent-rate-spec = tie.close (tie.spec limited-closing-speed-requires returns)

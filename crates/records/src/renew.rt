@@ -1,6 +1,6 @@
 // A craft made anew. A value of an enum has unused bytes beside its tag, and the compiler copies them
 // with it. A craft that is rebuilt from its parts carries none of them from record to record, so the
-// compiled loop keeps it in registers.
+// compiler can take it apart into its numbers.
 use crate::craft::Craft;
 use crate::craft::Guidance;
 use controllers::derivative::DerivativeState;

@@ -5,7 +5,7 @@ use lib.Ieee.Scale.{finite}
 use Rattle.floats.specs.Ops.{_⊕_, _⊖_, _⊗_, _⊘_}
 use Rattle.floats.specs.SinCos.{sinf, cosf}
 use Rattle.floats.specs.Atan.{atanf}
-use Rattle.math.specs.Math.{zero, cap-magnitude, all-finite}
+use Rattle.math.specs.Math.{zero, cap-magnitude, past, all-finite}
 use Rattle.math.specs.Vectors.{zeros, plus, minus, times, norm}
 use Rattle.math.specs.declared.vectors.Vec2.{Vec2}
 use Rattle.controllers.specs.RateDivider.{due, ran}
@@ -46,16 +46,10 @@ tilt-for-acceleration accel heading =
 
 -- ---- the drag fed forward
 
--- the part of a velocity past the hold band
-unfoldable pub past-hold-band : Vec2 → Float → Vec2
-past-hold-band commanded band =
-    let speed = norm commanded in
-    cond (lt band speed) (times commanded ((speed ⊖ band) ⊘ speed)) zeros
-
--- the air's velocity into the frame of the heading, and the push back out of it
+-- the velocity through the air at the commanded one past the hold band, into the frame of the heading, and the push back out of it
 unfoldable pub drag-feedforward : WindConfig → Float → Vec2 → Vec2 → Float → Vec2
 drag-feedforward config band commanded wind heading =
-    let air = minus (past-hold-band commanded band) wind in
+    let air = minus (past commanded band) wind in
     let sin = sinf heading in
     let cos = cosf heading in
     let pulled = drag config (record { x = air .x ⊗ cos ⊕ air .y ⊗ sin; y = neg (air .x) ⊗ sin ⊕ air .y ⊗ cos }) in

@@ -11,7 +11,7 @@ use wind::drag::WindConfig;
 use wind::state::VehicleState;
 use wind::window::Filter;
 ghost use mathlib.Core.Path.{_≡_};
-ghost use Rattle.copter.specs.Tilt.{tilt-for-acceleration, past-hold-band, drag-feedforward, velocity-or-zero, wind-or-zero, lateral-target, lateral-estimate, navigable, held, levelled, limit, run, tilt-toward};
+ghost use Rattle.copter.specs.Tilt.{tilt-for-acceleration, drag-feedforward, velocity-or-zero, wind-or-zero, lateral-target, lateral-estimate, navigable, held, levelled, limit, run, tilt-toward};
 
 // Where to fly: a position, the target's own velocity and the largest speed.
 pub struct Course {
@@ -63,7 +63,7 @@ pub fn drag_feedforward_mps2(
 ) -> Vec2
     ensures { λ r. ⌜ r ≡ drag-feedforward config «hold_band_mps» «commanded_mps» «wind_mps» «heading_rad» ⌝ }
 {
-    let leg = past_hold_band(commanded_mps, hold_band_mps);
+    let leg = math::past(commanded_mps, hold_band_mps);
     let air = leg.minus(wind_mps);
     let sin = floats::sin_cos::sinf(heading_rad);
     let cos = floats::sin_cos::cosf(heading_rad);
@@ -78,17 +78,6 @@ pub fn drag_feedforward_mps2(
         x: push_x * cos - push_y * sin,
         y: push_x * sin + push_y * cos,
     }
-}
-
-// The part of a velocity past the hold band.
-fn past_hold_band(commanded_mps: Vec2, hold_band_mps: f32) -> Vec2
-    ensures { λ r. ⌜ r ≡ past-hold-band «commanded_mps» «hold_band_mps» ⌝ }
-{
-    let speed_mps = commanded_mps.norm();
-    if speed_mps > hold_band_mps {
-        return commanded_mps.times((speed_mps - hold_band_mps) / speed_mps);
-    }
-    Vec2::zeros()
 }
 
 fn velocity_or_zero(velocity_mps: TargetVelocity) -> Vec2

@@ -69,21 +69,17 @@ fn sqrtf_by_digits(x: f32) -> f32
     f32::from_bits((((exponent + 1) / 2 - 386) * 8388608 + (root + 1) / 2) as u32)
 }
 
-// A number near 2^-896 * √x, for a normal x above zero with the pattern `bits`. Nothing is promised
-// of it.
-fn near(bits: u32) -> f64 {
-    let wide = bits as u64;
-    // x as an `f64`: the exponent's field is 896 more.
-    let z = f64::from_bits(wide * 536870912 + 0x3800_0000_0000_0000);
+// A number near 2^-896 * √z, for a z above zero that is a normal `f32` with the pattern `bits`. Nothing
+// is promised of it.
+fn near(z: f64, bits: u32) -> f64 {
     // Half of a pattern has half of the exponent: y is off from 1/√z by at most 1/21 of it.
-    let y = f64::from_bits(0x43e6_9000_0000_0000 - wide * 268435456);
-    // √z is z * y / √(1 - h). What follows has a polynomial in h for 1 / √(1 - h).
+    let y = f64::from_bits(0x43e6_9000_0000_0000 - (bits as u64) * 268435456);
+    // √z is z * y / √(1 - h). The factors are those of a polynomial in h for 1 / √(1 - h).
     let h = 1.0 - z * (y * y);
-    let u = h * h;
-    let w = z * 1.8928834978668395e-270 * y;
-    let tail = 0.28664997159537325 * (h + 0.9496340900235763) * u
-        + 0.3124311040884885 * (h + 1.2002721622667663);
-    w * (0.9999999995469945 + 0.5000000296253735 * h) + w * u * tail
+    let first = z * 5.425950008968803e-271 * y * (h + 1.3037139091641625);
+    let second = h * (h + 1.146967453961299) + 1.687615262438932;
+    let third = h * h + (1.5855953128975564 - h * 1.5010472731018851);
+    first * (second * third)
 }
 
 // Whether `pattern` is found to be that of the root of x, a normal number above zero.
@@ -112,14 +108,14 @@ fn is_root(x: f32, pattern: u64) -> bool
     k <= q * q + q
 }
 
-// For a normal x above zero a guess is checked. Where it fails, and for any other x, the digits decide.
+// For most x above zero a guess is checked. Where it fails, and for any other x, the digits decide.
 pub fn sqrtf(x: f32) -> f32
     ensures { λ r. ⌜ r ≡ sqrt binary32 x ⌝ }
 {
-    // From the smallest normal number on.
-    if 0.000000000000000000000000000000000000011754944 <= x {
-        if x < f32::from_bits(2139095040) {
-            let s = near(f32::to_bits(x));
+    // From 10^-37 to 3 * 10^38, so that x is normal.
+    if 0.0000000000000000000000000000000000001 <= x {
+        if x <= 300000000000000000000000000000000000000.0 {
+            let s = near(x as f64, f32::to_bits(x));
             if s == s {
                 // The exponent's field of s is that of the root as an `f32`. So the pattern of s less
                 // its last 29 digits, rounded, is that of the root.

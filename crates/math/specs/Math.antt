@@ -51,6 +51,12 @@ within v limit = le (norm v) limit
 unfoldable pub exceeds : Vec2 → Float → Bool
 exceeds v limit = lt limit (norm v)
 
+-- the part of v past the length `band`
+unfoldable pub past : Vec2 → Float → Vec2
+past v band =
+    let length = norm v in
+    cond (lt band length) (times v ((length ⊖ band) ⊘ length)) zeros
+
 -- the limits from 0.0000001 to 10000000: each is the root of its square
 unfoldable pub has-plain-square : Float → Bool
 has-plain-square limit = le (f32 0x33D6_BF95) limit && le limit (f32 0x4B18_9680)

@@ -8,7 +8,7 @@ use vectors::Vec3;
 ghost use mathlib.Core.Path.{_≡_};
 ghost use mathlib.Core.Bool.{true, false};
 ghost use lib.Ieee.{lt};
-ghost use Rattle.math.specs.Math.{zero, cap-magnitude, within, exceeds, RootWithin, RootBeyond, has-plain-square, saturate-unit, saturate-symmetric, clamp-symmetric, limit-or-zero, clamp-symmetric-each, all-finite, neu-to-ned, tilt-boost, saturate-throttle, guard-sink, shaped-closing-speed, limited-closing-speed, braked-speed, wrap-angle, rem-euclid};
+ghost use Rattle.math.specs.Math.{zero, cap-magnitude, within, exceeds, past, RootWithin, RootBeyond, has-plain-square, saturate-unit, saturate-symmetric, clamp-symmetric, limit-or-zero, clamp-symmetric-each, all-finite, neu-to-ned, tilt-boost, saturate-throttle, guard-sink, shaped-closing-speed, limited-closing-speed, braked-speed, wrap-angle, rem-euclid};
 
 // v scaled down, keeping its direction, so that its length is at most `max`. A vector of no finite
 // length has no direction and becomes zero.
@@ -55,6 +55,21 @@ pub fn exceeds(v: Vec2, limit: f32) -> bool
         return true;
     }
     limit < floats::sqrt::sqrtf(square)
+}
+
+// The part of v past a length of `band`: zero where v is not longer.
+pub fn past(v: Vec2, band: f32) -> Vec2
+    ensures { λ r. ⌜ r ≡ past v band ⌝ }
+{
+    let square = v.dot(v);
+    if surely_within(square, band) {
+        return Vec2::zeros();
+    }
+    let length = floats::sqrt::sqrtf(square);
+    if length > band {
+        return v.times((length - band) / length);
+    }
+    Vec2::zeros()
 }
 
 // Whether the limit's square tells without a root that the root of `square` is at most the limit.

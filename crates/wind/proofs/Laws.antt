@@ -1,4 +1,5 @@
 -- Laws of the definitions of specs/. Assumes nothing.
+pub mod Drag
 pub mod Window
 pub mod Sample
 pub mod Covariance

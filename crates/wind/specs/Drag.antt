@@ -56,16 +56,25 @@ newton-step axis force axial speed =
     let rise = slope axis speed axial in
     cond (lt zero rise) (speed ⊖ excess ⊘ rise) speed
 
+abbrev pub three-steps : AxisDrag → Float → Float → Float → Float
+three-steps axis force axial speed =
+    let refined : Float → Float = newton-step axis force axial in
+    refined (refined (refined speed))
+
 -- a speed with the sign against a force
 unfoldable pub against : Float → Float → Float
 against force speed = cond (lt zero force) (neg speed) speed
+
+-- an air velocity, with the slope there
+abbrev along : AxisDrag → Float → Float → AirVelocity
+along axis axial air = Along air (slope axis air axial)
 
 -- Four steps of Newton's method from still air, or with momentum drag alone its quotient; none with no drag.
 unfoldable pub air-velocity : AxisDrag → Float → Float → AirVelocity
 air-velocity axis force axial =
     let refined : Float → Float = newton-step axis (abs force) axial in
-    cond (lt zero (axis .«k_per_m»)) (Along (against force (refined (refined (refined (refined (still-air axis (abs force))))))))
-    (cond (lt zero (axis .«mu_per_s»)) (Along (against force (abs force ⊘ axis .«mu_per_s»))) Unknown)
+    cond (lt zero (axis .«k_per_m»)) (along axis axial (against force (refined (refined (refined (refined (still-air axis (abs force))))))))
+    (cond (lt zero (axis .«mu_per_s»)) (along axis axial (against force (abs force ⊘ axis .«mu_per_s»))) Unknown)
 
 -- ---- the drag at an air velocity, level
 

@@ -80,16 +80,16 @@ unfoldable pub filter-or : Filter → WindConfig → WindEstimate
 filter-or filters.Nothing config = initial config
 filter-or (filters.Estimate estimate) config = estimate
 
--- the noise of the wind along an axis: the force's over the drag's slope, the steeper of those at the predicted and at the measured air velocity
+-- the noise of the wind along an axis: the force's over the drag's slope, the steeper of that at the predicted air velocity and `rise`, that at the measured one
 unfoldable pub noise : Float → AxisDrag → Float → Float → Float → Float
-noise force-noise drag predicted-air air axial = force-noise ⊘ max (max (slope drag predicted-air axial) (slope drag air axial)) min-drag-slope
+noise force-noise drag predicted-air rise axial = force-noise ⊘ max (max (slope drag predicted-air axial) rise) min-drag-slope
 
 -- corrected by the air velocity that the force along an axis tells
 unfoldable pub axis-corrected-by : AirVelocity → WindEstimate → WindConfig → AxisDrag → Vec2 → Measured → WindEstimate
 axis-corrected-by Unknown estimate config drag axis means = estimate
-axis-corrected-by (Along air) estimate config drag axis means =
+axis-corrected-by (Along air rise) estimate config drag axis means =
     let predicted-air = means .«ground_mps» ⊖ dot axis (estimate .«velocity_mps») in
-    let sd = noise (config .«force_noise_mps2») drag predicted-air air (means .«axial_mps») in
+    let sd = noise (config .«force_noise_mps2») drag predicted-air rise (means .«axial_mps») in
     correct estimate axis (means .«ground_mps» ⊖ air) (sd ⊗ sd) (config .«gate_sigma»)
 
 unfoldable pub axis-corrected : WindEstimate → WindConfig → AxisDrag → Vec2 → Measured → WindEstimate

@@ -2,8 +2,9 @@
 // rotors' momentum drag.
 use math::vectors::Vec2;
 ghost use mathlib.Core.Path.{_≡_};
+ghost use mathlib.Core.Bool.{true};
 ghost use Rattle.math.specs.Math.{zero};
-ghost use Rattle.wind.specs.Drag.{is-on, axis-drag, push, slope, newton-step, still-air, against, air-velocity, drag-along, drag};
+ghost use Rattle.wind.specs.Drag.{is-on, axis-drag, push, slope, newton-step, three-steps, still-air, against, air-velocity, drag-along, drag};
 
 // Sea-level air density, in kg/m³.
 pub const AIR_DENSITY_KGPM3: f32 = 1.225;
@@ -25,10 +26,16 @@ pub struct AxisDrag {
     pub mu_per_s: f32,
 }
 
-// The air velocity along an axis; none where the axis has no drag.
+// The air velocity along an axis and the drag's slope there; none where the axis has no drag.
 pub enum AirVelocity {
     Unknown,
-    Along(f32),
+    Along(f32, f32),
+}
+
+// A speed found by Newton's method, and a slope of the push.
+pub struct Step {
+    pub speed: f32,
+    pub slope_per_s: f32,
 }
 
 impl WindConfig {
@@ -117,16 +124,41 @@ impl AxisDrag {
         0.0 + self.mu_per_s
     }
 
-    // One step of Newton's method for the speed whose push is `push`.
-    fn newton_step(self, push: f32, axial_mps: f32, speed: f32) -> f32
-        ensures { λ r. ⌜ r ≡ newton-step self push «axial_mps» speed ⌝ }
+    // One step of Newton's method for the speed whose push is `push`, and the slope at `speed`.
+    fn newton_step(self, push: f32, axial_mps: f32, speed: f32) -> Step
+        ensures { λ r. ⌜ r .speed ≡ newton-step self push «axial_mps» speed ⌝ }
+        ensures { λ r. ⌜ r .«slope_per_s» ≡ slope self speed «axial_mps» ⌝ }
     {
         let excess = self.push_mps2(speed, axial_mps) - push;
-        let slope = self.slope_per_s(speed, axial_mps);
-        if slope > 0.0 {
-            return speed - excess / slope;
+        let slope_per_s = self.slope_per_s(speed, axial_mps);
+        if slope_per_s > 0.0 {
+            return Step {
+                speed: speed - excess / slope_per_s,
+                slope_per_s,
+            };
         }
-        speed
+        Step { speed, slope_per_s }
+    }
+
+    // Three steps, and the slope at the last speed. After a step that left the speed as it was, the
+    // others would too, and are not taken.
+    fn three_steps(self, push: f32, axial_mps: f32, speed: f32) -> Step
+        ensures { λ r. ⌜ r .speed ≡ three-steps self push «axial_mps» speed ⌝ }
+        ensures { λ r. ⌜ r .«slope_per_s» ≡ slope self (three-steps self push «axial_mps» speed) «axial_mps» ⌝ }
+    {
+        let first = self.newton_step(push, axial_mps, speed);
+        if surely_same(speed, first.speed) {
+            return first;
+        }
+        let second = self.newton_step(push, axial_mps, first.speed);
+        if surely_same(first.speed, second.speed) {
+            return second;
+        }
+        let third = self.newton_step(push, axial_mps, second.speed);
+        Step {
+            speed: third.speed,
+            slope_per_s: self.slope_per_s(third.speed, axial_mps),
+        }
     }
 
     // The speed whose push is `push` where there is none along the thrust axis.
@@ -138,23 +170,32 @@ impl AxisDrag {
         (floats::sqrt::sqrtf(mu * mu + 4.0 * k * push) - mu) / (2.0 * k)
     }
 
-    // The air velocity that pushes with `force_mps2`; it is against the force.
+    // The air velocity that pushes with `force_mps2`, and the slope there. It is against the force.
     pub fn air_velocity(self, force_mps2: f32, axial_mps: f32) -> AirVelocity
         ensures { λ r. ⌜ r ≡ air-velocity self «force_mps2» «axial_mps» ⌝ }
     {
         let push = floats::compare::abs(force_mps2);
         if self.k_per_m > 0.0 {
             let first = self.newton_step(push, axial_mps, self.still_air(push));
-            let second = self.newton_step(push, axial_mps, first);
-            let third = self.newton_step(push, axial_mps, second);
-            let fourth = self.newton_step(push, axial_mps, third);
-            return AirVelocity::Along(against(force_mps2, fourth));
+            let fourth = self.three_steps(push, axial_mps, first.speed);
+            return AirVelocity::Along(against(force_mps2, fourth.speed), fourth.slope_per_s);
         }
         if self.mu_per_s > 0.0 {
-            return AirVelocity::Along(against(force_mps2, push / self.mu_per_s));
+            let air_mps = against(force_mps2, push / self.mu_per_s);
+            return AirVelocity::Along(air_mps, self.slope_per_s(air_mps, axial_mps));
         }
         AirVelocity::Unknown
     }
+}
+
+// Whether v and w are equal and not zero, so that they are one number.
+fn surely_same(v: f32, w: f32) -> bool
+    ensures { λ r. ⌜ (r ≡ true → v ≡ w) ⌝ }
+{
+    if v == w {
+        return v != 0.0;
+    }
+    false
 }
 
 // A speed with the sign against a force.

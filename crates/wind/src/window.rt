@@ -198,7 +198,10 @@ fn axis_corrected(
 ) -> WindEstimate
     ensures { λ r. ⌜ r ≡ axis-corrected estimate config drag axis mean ⌝ }
 {
-    let AirVelocity::Along(air_mps) = drag.air_velocity(mean.force_mps2, mean.axial_mps) else {
+    let AirVelocity::Along(air_mps, slope_per_s) = drag.air_velocity(
+        mean.force_mps2,
+        mean.axial_mps,
+    ) else {
         return estimate;
     };
     let predicted_air_mps = mean.ground_mps - axis.dot(estimate.velocity_mps);
@@ -206,7 +209,7 @@ fn axis_corrected(
         config.force_noise_mps2,
         drag,
         predicted_air_mps,
-        air_mps,
+        slope_per_s,
         mean.axial_mps,
     );
     estimate.correct(
@@ -217,20 +220,20 @@ fn axis_corrected(
     )
 }
 
-// The noise of the wind along an axis, in m/s: the force's over the drag's slope, the steeper of those
-// at the air velocity that the estimate predicts and at the measured one.
+// The noise of the wind along an axis, in m/s: the force's over the drag's slope, the steeper of that
+// at the air velocity that the estimate predicts and `slope_per_s`, that at the measured one.
 fn noise(
     force_noise_mps2: f32,
     drag: AxisDrag,
     predicted_air_mps: f32,
-    air_mps: f32,
+    slope_per_s: f32,
     axial_mps: f32,
 ) -> f32
-    ensures { λ r. ⌜ r ≡ noise «force_noise_mps2» drag «predicted_air_mps» «air_mps» «axial_mps» ⌝ }
+    ensures { λ r. ⌜ r ≡ noise «force_noise_mps2» drag «predicted_air_mps» «slope_per_s» «axial_mps» ⌝ }
 {
-    let slope_per_s = floats::minmax::max(
+    let steeper_per_s = floats::minmax::max(
         drag.slope_per_s(predicted_air_mps, axial_mps),
-        drag.slope_per_s(air_mps, axial_mps),
+        slope_per_s,
     );
-    force_noise_mps2 / floats::minmax::max(slope_per_s, MIN_DRAG_SLOPE_PER_S)
+    force_noise_mps2 / floats::minmax::max(steeper_per_s, MIN_DRAG_SLOPE_PER_S)
 }

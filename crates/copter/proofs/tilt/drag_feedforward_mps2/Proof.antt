@@ -4,8 +4,8 @@ use Rattle.copter.specs.Tilt.{drag-feedforward}
 use Rattle.copter.proofs.tilt.drag_feedforward_mps2.Statement.{statement}
 use Rattle.copter.proofs.tilt.drag_feedforward_mps2.Tie as tie
 
-past-hold-band-requires : tie.Need-past-hold-band-requires
-past-hold-band-requires c κs = search needs
+past-requires : tie.Need-past-requires
+past-requires c κs = search needs
 
 minus-requires : tie.Need-minus-requires
 minus-requires c κs = search needs
@@ -27,14 +27,14 @@ returns c =
       c .before .before .before .before .before .before .before .cosf .ensures,
       c .before .before .before .before .before .before .before .before .sinf .ensures,
       c .before .before .before .before .before .before .before .before .before .minus .ensures,
-      c .before .before .before .before .before .before .before .before .before .before .past-hold-band .ensures,
+      c .before .before .before .before .before .before .before .before .before .before .past .ensures,
     )
 
 pub drag-feedforward-mps2-spec : {M : Type 1} → statement M
 drag-feedforward-mps2-spec =
     tie.close
     (tie.spec
-    past-hold-band-requires
+    past-requires
     minus-requires
     sinf-requires
     cosf-requires

@@ -1,19 +1,10 @@
--- `floats::sqrt::near` is defined: neither of the two patterns that it makes is a NaN's, whatever the argument. Assumes nothing.
+-- `floats::sqrt::near` is defined: the pattern that it makes is no NaN's, whatever the arguments. Assumes nothing.
 use native.Mathlib.Omega.{arith}
 use borrow.Author.Needs.{needs}
 use lib.Ieee.{binary64}
 use Rattle.floats.proofs.Laws.Sqrt.Special.{upto-infinity}
 use Rattle.floats.proofs.sqrt.near.Statement.{statement}
 use Rattle.floats.proofs.sqrt.near.Tie as tie
-
-mul-z : tie.Need-mul-z
-mul-z c = search needs
-
-add-z : tie.Need-add-z
-add-z c = search needs
-
-float-from-bits-z : tie.Need-float-from-bits-z
-float-from-bits-z c = upto-infinity binary64 _ (omega arith)
 
 mul-y : tie.Need-mul-y
 mul-y c = search needs
@@ -28,4 +19,4 @@ returns : tie.Need-returns
 returns c = search needs
 
 pub near-spec : {M : Type 1} → statement M
-near-spec = tie.close (tie.spec mul-z add-z float-from-bits-z mul-y sub-y float-from-bits-y returns)
+near-spec = tie.close (tie.spec mul-y sub-y float-from-bits-y returns)

@@ -1,6 +1,7 @@
 -- `wind::drag::AxisDrag::air_velocity` meets its contract. Assumes nothing.
 use borrow.Author.Needs.{needs}
 use Rattle.wind.specs.Drag.{air-velocity}
+use Rattle.wind.proofs.Laws.Drag.{slope-against}
 use Rattle.wind.proofs.drag.AxisDrag.air_velocity.Statement.{statement}
 use Rattle.wind.proofs.drag.AxisDrag.air_velocity.Tie as tie
 
@@ -13,14 +14,8 @@ still-air-requires c κs = search needs
 newton-step-requires : tie.Need-newton-step-requires
 newton-step-requires c κs = search needs
 
-newton-step-requires-2 : tie.Need-newton-step-requires-2
-newton-step-requires-2 c κs = search needs
-
-newton-step-requires-3 : tie.Need-newton-step-requires-3
-newton-step-requires-3 c κs = search needs
-
-newton-step-requires-4 : tie.Need-newton-step-requires-4
-newton-step-requires-4 c κs = search needs
+three-steps-requires : tie.Need-three-steps-requires
+three-steps-requires c κs = search needs
 
 against-requires : tie.Need-against-requires
 against-requires c κs = search needs
@@ -28,28 +23,33 @@ against-requires c κs = search needs
 returns : tie.Need-returns
 unfolding air-velocity
 returns c =
+    let fourth = c .before .three-steps .ensures in
     rw (
+      slope-against,
       c .against .ensures,
-      c .before .newton-step4 .ensures,
-      c .before .before .newton-step3 .ensures,
-      c .before .before .before .newton-step2 .ensures,
-      c .before .before .before .before .newton-step .ensures,
-      c .before .before .before .before .before .still-air .ensures,
-      c .before .before .before .before .before .before .before .before .abs .ensures,
-      c .before .before .before .before .before .before .if1 .taken,
+      fourth .0,
+      fourth .1,
+      c .before .before .newton-step .ensures .0,
+      c .before .before .before .still-air .ensures,
+      c .before .before .before .before .before .before .abs .ensures,
+      c .before .before .before .before .if1 .taken,
     )
 
 against-requires-2 : tie.Need-against-requires-2
 against-requires-2 c κs = search needs
 
+slope-per-s-requires : tie.Need-slope-per-s-requires
+slope-per-s-requires c κs = search needs
+
 returns-2 : tie.Need-returns-2
 unfolding air-velocity
 returns-2 c =
     rw (
-      c .against2 .ensures,
-      c .before .before .before .before .before .before .abs .ensures,
-      c .before .before .before .before .if1 .left,
-      c .before .before .if2 .taken,
+      c .slope-per-s .ensures,
+      c .before .against2 .ensures,
+      c .before .before .before .before .before .before .before .abs .ensures,
+      c .before .before .before .before .before .if1 .left,
+      c .before .before .before .if2 .taken,
     )
 
 returns-3 : tie.Need-returns-3
@@ -63,11 +63,10 @@ air-velocity-spec =
     abs-requires
     still-air-requires
     newton-step-requires
-    newton-step-requires-2
-    newton-step-requires-3
-    newton-step-requires-4
+    three-steps-requires
     against-requires
     returns
     against-requires-2
+    slope-per-s-requires
     returns-2
     returns-3)

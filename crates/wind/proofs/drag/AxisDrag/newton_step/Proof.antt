@@ -12,11 +12,15 @@ slope-per-s-requires c κs = search needs
 
 returns : tie.Need-returns
 unfolding newton-step
-returns c = rw (← c .before .slope-per-s .ensures, ← c .before .before .push-mps2 .ensures, c .if1 .taken)
+returns c =
+    let slope = c .before .slope-per-s .ensures in
+    (rw (← slope, ← c .before .before .push-mps2 .ensures, c .if1 .taken), slope)
 
 returns-2 : tie.Need-returns-2
 unfolding newton-step
-returns-2 c = rw (← c .before .slope-per-s .ensures, c .if1 .left)
+returns-2 c =
+    let slope = c .before .slope-per-s .ensures in
+    (rw (← slope, c .if1 .left), slope)
 
 pub newton-step-spec : {M : Type 1} → statement M
 newton-step-spec = tie.close (tie.spec push-mps2-requires slope-per-s-requires returns returns-2)

@@ -12,7 +12,6 @@ use Rattle.wind.specs.declared.window.Filter.{Filter}
 use Rattle.heading.specs.HoverWind as hover
 use Rattle.heading.specs.LegHeading as leg
 use Rattle.heading.specs.declared.hover_wind.HoverWind.{HoverWind}
-use Rattle.heading.specs.declared.leg_heading.Goal.{Goal}
 use Rattle.heading.specs.declared.leg_heading.Turn.{Turn}
 use Rattle.copter.specs.declared.commands.AttitudeCommand.{AttitudeCommand}
 use Rattle.copter.specs.declared.commands.TargetVelocity.the-variants as velocities
@@ -34,9 +33,6 @@ use Rattle.copter.specs.declared.thrust.Held.{Held}
 use Rattle.copter.specs.declared.descent.Descended.{Descended}
 use Rattle.copter.specs.declared.tilt.Course.{Course}
 use Rattle.copter.specs.declared.guide.Guided.{Guided}
-use Rattle.copter.specs.declared.guide.Steered.{Steered}
-use Rattle.copter.specs.declared.guide.Plan.{Plan}
-use Rattle.copter.specs.declared.guide.Plan.the-variants as plans
 use Rattle.copter.specs.Memory.{level, upright, idled, fresh}
 use Rattle.copter.specs.Thrust.{floor-thrust, hold-piloted, hold-absolute, boosted}
 use Rattle.copter.specs.Descent.{descend-toward, land-descent}
@@ -228,32 +224,6 @@ guide-call self dt state (commands.Waypoint command) = waypoint-call self dt sta
 guide-call self dt state (commands.AbsoluteAttitude command) = absolute-attitude-call self dt state command
 guide-call self dt state (commands.Land command) = land-call self dt state command
 guide-call self dt state (commands.AbsoluteRate command) = absolute-rate-call self dt state command
-
--- what a piloted call answers, and the heading target that it leaves
-unfoldable pub steered : Guided → Steered
-steered guided = record { «heading_rad» = guided .craft .memory .«heading_rad»; setpoint = guided .setpoint; flags = guided .flags }
-
--- a piloted call, with the wind updated
-unfoldable pub steer : CopterGuidance → Steered → HoverWind → Guided
-steer self s wind =
-    record {
-      craft = record { config = self .config; memory = released (self .memory .lateral) (s .«heading_rad») wind };
-      setpoint = s .setpoint;
-      flags = s .flags;
-    }
-
--- the heading turned for a goal, with the wind updated
-unfoldable pub turn-for : CopterGuidance → Float → VehicleState → Goal → HoverWind → Turn
-turn-for self dt state goal wind =
-    let before = self .memory in
-    leg.toward (before .«leg_heading») dt (self .config .guidance .heading) (before .«heading_rad») goal (hover.estimate wind) state
-
--- what a plan gives: the wind is updated first
-unfoldable pub flown : CopterGuidance → Float → VehicleState → Plan → Guided
-flown self dt state (plans.Navigated course descended goal) =
-    let wind = wind-updated (self .memory) (self .config) dt state in
-    fly-to self dt state course descended (turn-for self dt state goal wind) wind
-flown self dt state (plans.Piloted s) = steer self s (wind-updated (self .memory) (self .config) dt state)
 
 -- ---- configure, prime and the wind reading
 

@@ -5,3 +5,4 @@ pub mod Thrust
 pub mod Descent
 pub mod Tilt
 pub mod Guide
+pub mod Plan

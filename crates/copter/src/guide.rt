@@ -30,7 +30,8 @@ use wind::state::VehicleState;
 use wind::window::Filter;
 ghost use mathlib.Core.Path.{_≡_};
 ghost use lib.Ieee.{Float};
-ghost use Rattle.copter.specs.Guide.{heading-target, followed-heading, command-heading, navigated-thrust, climb, piloted-flags, fly-to, attitude-call, absolute-attitude-call, absolute-rate-call, waypoint-call, land-call, guide-call, steered, steer, turn-for, flown, new-craft, prime, wind-reading};
+ghost use Rattle.copter.specs.Guide.{heading-target, followed-heading, command-heading, navigated-thrust, climb, piloted-flags, fly-to, attitude-call, absolute-attitude-call, absolute-rate-call, waypoint-call, land-call, guide-call, new-craft, prime, wind-reading};
+ghost use Rattle.copter.specs.Plan.{steered, steer, turn-for, flown};
 
 // The craft after a call, its setpoint and its flags.
 pub struct Guided {

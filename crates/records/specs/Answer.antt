@@ -1,6 +1,6 @@
 -- Document 01's number of each answer and of each refusal, and the bytes of an answer. Assumes nothing.
 use Prim.Native.Nat.{ℕ, _+_}
-use mathlib.Core.Bool.{Bool, cond}
+use mathlib.Core.Bool.{Bool, true, false, cond}
 use mathlib.Core.List.{List, [], _∷_, _++_}
 use lib.Dec.{eqb}
 use lib.Ieee.{Float, binary32, toBits}
@@ -33,6 +33,15 @@ field-of Short = 0
 field-of NotConfigured = 0
 field-of Mark = 0
 field-of NoRoom = 0
+
+-- no refusal
+abbrev pub accepted : Answer → Bool
+accepted (Refused refusal) = false
+accepted (Attitude setpoint flags) = true
+accepted (BodyRate setpoint flags) = true
+accepted Done = true
+accepted NoWind = true
+accepted (Wind estimate) = true
 
 -- a float, the low byte first; a NaN is 7FC00000
 abbrev pub float-bytes : Float → List ℕ

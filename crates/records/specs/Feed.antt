@@ -1,7 +1,7 @@
 -- The claim over whole feeds: document 01's "Demand 3 over whole feeds", as the type `WholeFeeds`. proofs/Laws/Feed.antt proves it. Assumes nothing.
 use Prim.Native.Nat.{ℕ}
 use mathlib.Core.Path.{_≡_}
-use mathlib.Core.Bool.{Bool, true, false, not, cond}
+use mathlib.Core.Bool.{Bool, true, false, cond}
 use mathlib.Core.Logic.{_⊎_}
 use mathlib.Core.List.{List, [], _∷_, _++_}
 use lib.Dec.{T, eqb}
@@ -18,8 +18,8 @@ use Rattle.records.specs.declared.craft.Guidance.{Guidance}
 use Rattle.records.specs.declared.craft.Guidance.the-variants.{Unconfigured, Configured}
 use Rattle.records.specs.declared.craft.Craft.{Craft}
 use Rattle.records.specs.declared.answer.Answer.{Answer}
-use Rattle.records.specs.declared.answer.Answer.the-variants.{Attitude, BodyRate, Refused, Done, NoWind, Wind}
 use Rattle.records.specs.declared.step.Handled.{Handled}
+use Rattle.records.specs.Answer.{accepted}
 use Rattle.records.specs.Craft.{unconfigured}
 use Rattle.records.specs.Read.{byte-at, state-at, absolute-attitude-command}
 use Rattle.records.specs.Step.{Outcome, step, reported, body-length}
@@ -99,16 +99,8 @@ kind-of entry = byte-at (entry .bytes) 0
 abbrev pub body-of : Entry → List ℕ
 body-of entry = take (body-length (kind-of entry)) (drop 1 (entry .bytes))
 
-abbrev pub is-refusal : Answer → Bool
-is-refusal (Refused refusal) = true
-is-refusal (Attitude setpoint flags) = false
-is-refusal (BodyRate setpoint flags) = false
-is-refusal Done = false
-is-refusal NoWind = false
-is-refusal (Wind estimate) = false
-
 abbrev pub Accepted : Craft → Entry → Type 0
-Accepted craft entry = T (not (is-refusal (outcome craft entry .answer)))
+Accepted craft entry = T (accepted (outcome craft entry .answer))
 
 -- an accepted call of kind 6 or 8
 pub record Ending (craft : Craft) (entry : Entry) : Type 0 where

@@ -16,7 +16,8 @@ ghost use lib.ListN.{length};
 ghost use Rattle.records.specs.declared.craft.Craft.{Craft};
 ghost use Rattle.records.specs.declared.answer.Answer.the-variants.{Refused};
 ghost use Rattle.records.specs.declared.step.Moved.the-variants.{Kept};
-ghost use Rattle.records.specs.Step.{lowest, time-step-ok, heading-ok, marks-ok, setpoint-answer, guided, configure, prime-record, checked, called, call-record, rate-record, wind-record, of-kind, body-length, holding, answer-of, craft-of, settled, untaken, answered, reported, step};
+ghost use Rattle.records.specs.Step.{lowest, time-step-ok, heading-ok, marks-ok, setpoint-answer, guided, configure, prime-record, checked, called, call-record, rate-record, wind-record, of-kind, body-length, answered, reported, step};
+ghost use Rattle.records.specs.Moved.{holding, answer-of, craft-of, settled, untaken};
 
 // A craft moved by a record, or kept as it was, with the record's answer.
 pub enum Moved {

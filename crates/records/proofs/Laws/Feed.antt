@@ -34,11 +34,11 @@ use Rattle.records.specs.declared.answer.Refusal.the-variants.{Field, Ti
 use Rattle.records.specs.declared.answer.Answer.{Answer}
 use Rattle.records.specs.declared.answer.Answer.the-variants.{Done}
 use Rattle.records.specs.Ready as readiness
-use Rattle.records.specs.Answer.{answer-bytes}
+use Rattle.records.specs.Answer.{accepted, answer-bytes}
 use Rattle.records.specs.Craft.{unconfigured}
 use Rattle.records.specs.Read.{float-at, state-at, attitude-command, waypoint-command, absolute-attitude-command, land-command, absolute-rate-command}
 use Rattle.records.specs.Step.{Verdict, configured, lowest, time-step-ok, heading-ok, marks-ok, refuse, setpoint-answer, guided, configure, prime-record, checked, called, rate-record, wind-answer, wind-record, of-kind, body-length, Outcome, answered, reported, with-kind, step}
-use Rattle.records.specs.Feed.{Entry, reply, outcome, after, replies, Link, Fed, given-back, port-replies, kind-of, body-of, is-refusal, Ending, heading-of, Priming, fresh-guidance, made-fresh, reset-guidance, reset, heading-held, wind-held, above-ground, SameWind, WholeFeeds}
+use Rattle.records.specs.Feed.{Entry, reply, outcome, after, replies, Link, Fed, given-back, port-replies, kind-of, body-of, Ending, heading-of, Priming, fresh-guidance, made-fresh, reset-guidance, reset, heading-held, wind-held, above-ground, SameWind, WholeFeeds}
 
 -- ---- crafts that differ in no more than what cannot be read
 
@@ -204,7 +204,7 @@ alike-replies c d a (entry ∷ entries) =
 -- ---- an accepted entry is handled by its kind
 
 abbrev taken-on : Answer → Type 0
-taken-on answer = T (not (is-refusal answer))
+taken-on answer = T (accepted answer)
 
 past-refusal : (P : Craft → Craft → Type 0) (b : Bool) (c d : Craft) (refusal : Refusal) (buffer : List ℕ) (o p : Outcome)
     → (taken-on (o .answer) → P (o .craft) (p .craft))

@@ -1,11 +1,11 @@
--- Which records are accepted, and no others: a record's answer is no refusal exactly when the buffer has room, the kind is known, the body is whole and
--- what document 01 asks of that kind holds. A configuration is accepted exactly when each of its 50 fields keeps its rule. Assumes nothing.
+-- Demand 1 holds: `total`. Each check of a record is followed to its answer, once for whether it is accepted and once for what a refusal leaves.
+-- Assumes nothing.
 use Prim.Native.Nat.{ℕ, zero, suc, _+_, _-_, _*_, _≤_, _<_}
-use mathlib.Core.Path.{_≡_, refl, _∙_}
-use mathlib.Core.Bool.{Bool, true, false, not, cond, _&&_}
+use mathlib.Core.Path.{_≡_, refl, sym, _∙_}
+use mathlib.Core.Bool.{Bool, true, false, not, cond, _&&_, true≢false}
 use mathlib.Core.List.{List}
 use native.Mathlib.Omega.{arith}
-use borrow.Author.Tests.{ltb-true, ltb-false, leb-false, not-true}
+use borrow.Author.Tests.{ltb-true, ltb-false, leb-true, leb-false, not-true, not-false}
 use lib.Dec.{leb, ltb, eqb}
 use lib.ListN.{length, take, drop}
 use lib.Ieee.{Float}
@@ -23,56 +23,15 @@ use Rattle.copter.specs.declared.guide.Guided.{Guided}
 use Rattle.records.specs.declared.craft.Guidance.{Guidance}
 use Rattle.records.specs.declared.craft.Guidance.the-variants.{Unconfigured, Configured}
 use Rattle.records.specs.declared.craft.Craft.{Craft}
-use Rattle.records.specs.declared.answer.Answer.{Answer}
-use Rattle.records.specs.declared.answer.Answer.the-variants.{Attitude, BodyRate, Refused, Done, NoWind, Wind}
-use Rattle.records.specs.declared.answer.Refusal.the-variants.{TimeStep, Heading}
+use Rattle.records.specs.declared.answer.Refusal.{Refusal}
+use Rattle.records.specs.declared.answer.Refusal.the-variants.{Field, TimeStep, Heading, Rate, Kind, Short, NotConfigured, Mark, NoRoom}
 use Rattle.records.specs.Ready as readiness
+use Rattle.records.specs.Answer.{number, refusal-bytes, answer-bytes, accepted}
 use Rattle.records.specs.Read.{byte-at, float-at, state-at}
-use Rattle.records.specs.Step.{Verdict, Outcome, lowest, time-step-ok, heading-ok, marks-ok, setpoint-answer, guided, configure, prime-record, checked, called, rate-record, wind-answer, wind-record, of-kind, body-length, answered, with-kind, step}
+use Rattle.records.specs.Step.{Verdict, Outcome, lowest, time-step-ok, heading-ok, marks-ok, refuse, setpoint-answer, guided, configure, prime-record, checked, called, rate-record, wind-answer, wind-record, of-kind, body-length, answered, with-kind, step}
+use Rattle.records.specs.Total.{has-craft, fields-ok, call-ok, body-ok, record-ok, Keeps, takes-none, Refusing, Total}
 
--- ---- what is accepted
-
--- an answer that is no refusal
-abbrev pub accepted : Answer → Bool
-accepted (Attitude s flags) = true
-accepted (BodyRate s flags) = true
-accepted (Refused refusal) = false
-accepted Done = true
-accepted NoWind = true
-accepted (Wind w) = true
-
-abbrev pub has-craft : Guidance → Bool
-has-craft Unconfigured = false
-has-craft (Configured g) = true
-
--- a call: a craft, marks of 0 or 1, a time step from 1/4,096 to 1, and a heading that is not finite or at most 1,024 in size
-abbrev pub call-ok : Guidance → Bool → List ℕ → Bool
-call-ok guidance marks body =
-    has-craft guidance && (marks && (time-step-ok (float-at body 0) && heading-ok (state-at body 4 .«heading_rad»)))
-
--- what each kind asks of the craft and of the body
-unfoldable pub body-ok : ℕ → Guidance → List ℕ → Bool
-body-ok kind guidance body =
-    cond (eqb kind 1) (not (leb (lowest body 1 50) 50))
-    (cond (eqb kind 2) (has-craft guidance && heading-ok (state-at body 0 .«heading_rad»))
-    (cond (eqb kind 3) (call-ok guidance true body)
-    (cond (eqb kind 4) false
-    (cond (eqb kind 5) (call-ok guidance (marks-ok body) body)
-    (cond (eqb kind 6) (call-ok guidance true body)
-    (cond (eqb kind 7) (call-ok guidance true body)
-    (cond (eqb kind 8) (call-ok guidance true body) (has-craft guidance))))))))
-
--- a buffer of 25 bytes or more, a kind from 1 to 9, a whole body, and what the kind asks
-unfoldable pub record-ok : Craft → List ℕ → List ℕ → Bool
-record-ok craft bytes buffer =
-    let kind = byte-at bytes 0 in
-    let rest = drop 1 bytes in
-    not (ltb (length buffer) 25)
-    && (not (eqb (length bytes) 0)
-    && (not (ltb kind 1)
-    && (not (ltb 9 kind) && (not (ltb (length rest) (body-length kind)) && body-ok kind (craft .guidance) (take (body-length kind) rest)))))
-
--- ---- the proof, kind by kind
+-- ---- what is accepted, kind by kind
 
 abbrev ok : Verdict → Bool
 ok verdict = accepted (verdict .answer)
@@ -106,7 +65,7 @@ guided-accepted : (g : Guided) → ok (guided g) ≡ true
 unfolding guided
 guided-accepted g = setpoint-accepted (g .setpoint) (g .flags)
 
-configure-accepted : (craft : Craft) (body : List ℕ) → ok (configure craft body) ≡ not (leb (lowest body 1 50) 50)
+configure-accepted : (craft : Craft) (body : List ℕ) → ok (configure craft body) ≡ fields-ok body
 unfolding configure
 configure-accepted craft body = refused-if (leb (lowest body 1 50) 50) _ _ refl refl
 
@@ -159,8 +118,7 @@ of-kind-accepted kind craft body =
     (either (eqb kind 7) _ _ _ _ (call-accepted craft guidance body true _)
     (either (eqb kind 8) _ _ _ _ (call-accepted craft guidance body true _) (wind-accepted craft guidance))))))))
 
--- Demand 1: a record is accepted exactly when `record-ok` says so.
-pub accepted-exactly : (craft : Craft) (bytes buffer : List ℕ) → accepted (step craft bytes buffer .answer) ≡ record-ok craft bytes buffer
+accepted-exactly : (craft : Craft) (bytes buffer : List ℕ) → accepted (step craft bytes buffer .answer) ≡ record-ok craft bytes buffer
 unfolding step with-kind answered record-ok
 accepted-exactly craft bytes buffer =
     let kind = byte-at bytes 0 in
@@ -173,10 +131,6 @@ accepted-exactly craft bytes buffer =
     (asked-next (ltb (length rest) needed) _ _ _ refl (of-kind-accepted kind craft (take needed rest))))))
 
 -- ---- a configuration
-
--- the field n of a configuration keeps its rule
-abbrev pub Keeps : List ℕ → ℕ → Type 0
-Keeps body n = rule n (float-at body (4 * (n - 1))) ≡ true
 
 none-breaks : (body : List ℕ) (n d : ℕ) → ((i : ℕ) → n ≤ i → i < n + d → Keeps body i) → lowest body n d ≡ n + d
 unfolding lowest
@@ -209,11 +163,199 @@ all-keep body n (suc d) above i low high =
     first-or-later body n i (ltb n i) refl low (first-keeps body n d keeps refl above)
     (λ (later : suc n ≤ i). all-keep body (suc n) d (others-searched body n d keeps above) i later (omega arith))
 
--- A configuration is accepted exactly when each of its 50 fields keeps its rule.
-pub kept→accepted : (body : List ℕ) → ((n : ℕ) → 1 ≤ n → n ≤ 50 → Keeps body n) → not (leb (lowest body 1 50) 50) ≡ true
+kept→accepted : (body : List ℕ) → ((n : ℕ) → 1 ≤ n → n ≤ 50 → Keeps body n) → fields-ok body ≡ true
 kept→accepted body keeps = rw (none-breaks body 1 50 (λ (i : ℕ) (low : 1 ≤ i) (high : i < 51). keeps i low (omega arith)))
 
-pub accepted→kept : (body : List ℕ) → not (leb (lowest body 1 50) 50) ≡ true → (n : ℕ) → 1 ≤ n → n ≤ 50 → Keeps body n
+accepted→kept : (body : List ℕ) → fields-ok body ≡ true → (n : ℕ) → 1 ≤ n → n ≤ 50 → Keeps body n
 accepted→kept body none n low high =
     let above = leb-false (lowest body 1 50) 50 (not-true (leb (lowest body 1 50) 50) none) in
     all-keep body 1 50 (omega arith) n low (omega arith)
+
+-- The search from field n on stops at a field that breaks its rule, or past the last.
+stop-breaks : (body : List ℕ) (n d : ℕ) (b : Bool) → rule n (float-at body (4 * (n - 1))) ≡ b
+    → (lowest body (suc n) d < suc n + d → rule (lowest body (suc n) d) (float-at body (4 * (lowest body (suc n) d - 1))) ≡ false)
+    → cond b (lowest body (suc n) d) n < n + suc d
+    → rule (cond b (lowest body (suc n) d) n) (float-at body (4 * (cond b (lowest body (suc n) d) n - 1))) ≡ false
+stop-breaks body n d true e later below = later (omega arith)
+stop-breaks body n d false e later below = e
+
+search-breaks : (body : List ℕ) (n d : ℕ) → lowest body n d < n + d → rule (lowest body n d) (float-at body (4 * (lowest body n d - 1))) ≡ false
+unfolding lowest
+search-breaks body n zero below = absurd (omega arith)
+search-breaks body n (suc d) below =
+    stop-breaks body n d (rule n (float-at body (4 * (n - 1)))) refl (search-breaks body (suc n) d) below
+
+lowest-breaks : (body : List ℕ) → fields-ok body ≡ false → rule (lowest body 1 50) (float-at body (4 * (lowest body 1 50 - 1))) ≡ false
+lowest-breaks body found =
+    let within = leb-true (lowest body 1 50) 50 (not-false (leb (lowest body 1 50) 50) found) in
+    search-breaks body 1 50 (omega arith)
+
+-- What is below the stop keeps its rule.
+passed-keep : (body : List ℕ) (n d i : ℕ) (b : Bool) → rule n (float-at body (4 * (n - 1))) ≡ b → n ≤ i
+    → (suc n ≤ i → i < lowest body (suc n) d → Keeps body i)
+    → i < cond b (lowest body (suc n) d) n → Keeps body i
+passed-keep body n d i true e low later below =
+    first-or-later body n i (ltb n i) refl low e (λ (past : suc n ≤ i). later past below)
+passed-keep body n d i false e low later below = absurd (omega arith)
+
+search-keep : (body : List ℕ) (n d i : ℕ) → n ≤ i → i < lowest body n d → Keeps body i
+unfolding lowest
+search-keep body n zero i low below = absurd (omega arith)
+search-keep body n (suc d) i low below =
+    passed-keep body n d i (rule n (float-at body (4 * (n - 1)))) refl low (search-keep body (suc n) d i) below
+
+-- ---- what is refused, kind by kind
+
+-- The craft as it was, and a refusal that takes the record.
+record Kept (craft : Craft) (verdict : Verdict) : Type 0 where
+  pub refusal : Refusal
+  pub with-room : eqb (number refusal) 9 ≡ false
+  pub takes-record : takes-none refusal ≡ false
+  pub is-refusal : verdict ≡ refuse craft refusal
+
+abbrev KeptIfRefused : Craft → Verdict → Type 0
+KeptIfRefused craft verdict = ok verdict ≡ false → Kept craft verdict
+
+either-kept : (craft : Craft) (b : Bool) (v w : Verdict) → KeptIfRefused craft v → KeptIfRefused craft w → KeptIfRefused craft (cond b v w)
+either-kept craft true v w first second = first
+either-kept craft false v w first second = second
+
+-- an accepted verdict is not refused
+never-refused : (craft : Craft) (verdict : Verdict) → ok verdict ≡ true → KeptIfRefused craft verdict
+never-refused craft verdict accept refusing = absurd (true≢false (sym accept ∙ refusing))
+
+kept : (craft : Craft) (refusal : Refusal) → eqb (number refusal) 9 ≡ false → takes-none refusal ≡ false → KeptIfRefused craft (refuse craft refusal)
+kept craft refusal room takes refusing = record { refusal = refusal; with-room = room; takes-record = takes; is-refusal = refl }
+
+configure-kept : (craft : Craft) (body : List ℕ) → KeptIfRefused craft (configure craft body)
+unfolding configure
+configure-kept craft body =
+    either-kept craft (leb (lowest body 1 50) 50) _ _ (kept craft (Field (lowest body 1 50)) refl refl) (never-refused craft _ refl)
+
+prime-kept : (craft : Craft) (guidance : Guidance) (body : List ℕ) → KeptIfRefused craft (prime-record craft guidance body)
+unfolding prime-record
+prime-kept craft Unconfigured body = kept craft NotConfigured refl refl
+prime-kept craft (Configured g) body =
+    either-kept craft (heading-ok (state-at body 0 .«heading_rad»)) _ _ (never-refused craft _ refl) (kept craft Heading refl refl)
+
+checks-kept : (m t h : Bool) (craft : Craft) (g : CopterGuidance) (dt : Float) (state : VehicleState) (command : Command) →
+    KeptIfRefused craft
+    (called
+    (cond (not m) (readiness.Refused Mark)
+    (cond (not t) (readiness.Refused TimeStep) (cond h (readiness.Call g dt state) (readiness.Refused Heading))))
+    craft command)
+unfolding called
+checks-kept false t h craft g dt state command = kept craft Mark refl refl
+checks-kept true false h craft g dt state command = kept craft TimeStep refl refl
+checks-kept true true false craft g dt state command = kept craft Heading refl refl
+checks-kept true true true craft g dt state command = never-refused craft _ (guided-accepted (guide-call g dt state command))
+
+call-kept : (craft : Craft) (guidance : Guidance) (body : List ℕ) (marks : Bool) (command : Command) →
+    KeptIfRefused craft (called (checked guidance body marks) craft command)
+unfolding checked called
+call-kept craft Unconfigured body marks command = kept craft NotConfigured refl refl
+call-kept craft (Configured g) body marks command =
+    checks-kept marks (time-step-ok (float-at body 0)) (heading-ok (state-at body 4 .«heading_rad»)) craft g (float-at body 0) (state-at body 4) command
+
+rate-kept : (craft : Craft) (guidance : Guidance) → KeptIfRefused craft (rate-record craft guidance)
+unfolding rate-record
+rate-kept craft Unconfigured = kept craft NotConfigured refl refl
+rate-kept craft (Configured g) = kept craft Rate refl refl
+
+wind-kept : (craft : Craft) (guidance : Guidance) → KeptIfRefused craft (wind-record craft guidance)
+unfolding wind-record
+wind-kept craft Unconfigured = kept craft NotConfigured refl refl
+wind-kept craft (Configured g) = never-refused craft _ (reading-accepted (wind-reading g))
+
+of-kind-kept : (kind : ℕ) (craft : Craft) (body : List ℕ) → KeptIfRefused craft (of-kind kind craft body)
+unfolding of-kind
+of-kind-kept kind craft body =
+    let guidance = craft .guidance in
+    either-kept craft (eqb kind 1) _ _ (configure-kept craft body)
+    (either-kept craft (eqb kind 2) _ _ (prime-kept craft guidance body)
+    (either-kept craft (eqb kind 3) _ _ (call-kept craft guidance body true _)
+    (either-kept craft (eqb kind 4) _ _ (rate-kept craft guidance)
+    (either-kept craft (eqb kind 5) _ _ (call-kept craft guidance body (marks-ok body) _)
+    (either-kept craft (eqb kind 6) _ _ (call-kept craft guidance body true _)
+    (either-kept craft (eqb kind 7) _ _ (call-kept craft guidance body true _)
+    (either-kept craft (eqb kind 8) _ _ (call-kept craft guidance body true _) (wind-kept craft guidance))))))))
+
+-- ---- what a refused record leaves
+
+module _ (craft : Craft) (bytes buffer : List ℕ) where
+  abbrev RefusingIfRefused : Outcome → Type 0
+  RefusingIfRefused outcome = accepted (outcome .answer) ≡ false → Refusing craft bytes buffer outcome
+
+  either-refusing : (b : Bool) (v w : Outcome) → RefusingIfRefused v → RefusingIfRefused w → RefusingIfRefused (cond b v w)
+  either-refusing true v w first second = first
+  either-refusing false v w first second = second
+
+  -- a refusal that is written
+  refusal-written : (refusal : Refusal) (taken : ℕ) → eqb (number refusal) 9 ≡ false → ltb (length buffer) 25 ≡ false
+      → taken ≡ cond (takes-none refusal) 0 (suc (body-length (byte-at bytes 0)))
+      → Refusing craft bytes buffer (answered (refuse craft refusal) taken buffer)
+  unfolding answered answer-bytes refusal-bytes
+  refusal-written refusal taken numbered room takes =
+      record {
+        refusal = refusal;
+        refused = refl;
+        craft-stays = refl;
+        buffer-left = rw (numbered, room);
+        written = rw (numbered, room);
+        taken = takes;
+        nine-without-room = numbered ∙ sym room;
+      }
+
+  no-room : ltb (length buffer) 25 ≡ true → Refusing craft bytes buffer (answered (refuse craft NoRoom) 0 buffer)
+  unfolding answered answer-bytes refusal-bytes
+  no-room short =
+      record {
+        refusal = NoRoom;
+        refused = refl;
+        craft-stays = refl;
+        buffer-left = rw short;
+        written = rw short;
+        taken = refl;
+        nine-without-room = sym short;
+      }
+
+  verdict-refusing : (verdict : Verdict) → ltb (length buffer) 25 ≡ false → Kept craft verdict
+      → Refusing craft bytes buffer (answered verdict (suc (body-length (byte-at bytes 0))) buffer)
+  verdict-refusing verdict room k =
+      rw (k .is-refusal) (refusal-written (k .refusal) _ (k .with-room) room (rw (k .takes-record)))
+
+  with-kind-refusing : ltb (length buffer) 25 ≡ false → RefusingIfRefused (with-kind (byte-at bytes 0) craft (drop 1 bytes) buffer)
+  unfolding with-kind answered
+  with-kind-refusing room =
+      let kind = byte-at bytes 0 in
+      let rest = drop 1 bytes in
+      let needed = body-length kind in
+      either-refusing (ltb kind 1) _ _ (λ refusing. refusal-written Kind 0 refl room refl)
+      (either-refusing (ltb 9 kind) _ _ (λ refusing. refusal-written Kind 0 refl room refl)
+      (either-refusing (ltb (length rest) needed) _ _ (λ refusing. refusal-written Short 0 refl room refl)
+      (λ refusing. verdict-refusing (of-kind kind craft (take needed rest)) room (of-kind-kept kind craft (take needed rest) refusing))))
+
+  step-refusing : (b : Bool) → ltb (length buffer) 25 ≡ b
+      → RefusingIfRefused
+      (cond b (answered (refuse craft NoRoom) 0 buffer)
+      (cond (eqb (length bytes) 0) (answered (refuse craft Short) 0 buffer) (with-kind (byte-at bytes 0) craft (drop 1 bytes) buffer)))
+  step-refusing true short = λ refusing. no-room short
+  step-refusing false room =
+      either-refusing (eqb (length bytes) 0) _ _ (λ refusing. refusal-written Short 0 refl room refl) (with-kind-refusing room)
+
+  refused-stays : record-ok craft bytes buffer ≡ false → Refusing craft bytes buffer (step craft bytes buffer)
+  unfolding step
+  refused-stays not-ok = step-refusing (ltb (length buffer) 25) refl (accepted-exactly craft bytes buffer ∙ not-ok)
+
+-- ---- the claim
+
+pub total : Total
+total =
+    record {
+      accepted-exactly = accepted-exactly;
+      kept→accepted = kept→accepted;
+      accepted→kept = accepted→kept;
+      lowest-breaks = lowest-breaks;
+      lower-keep = λ (body : List ℕ) (n : ℕ) (low : 1 ≤ n) (below : n < lowest body 1 50). search-keep body 1 50 n low below;
+      refused-stays = refused-stays;
+    }

@@ -1,5 +1,5 @@
 use borrow.Author.Needs.{needs}
-use Rattle.records.specs.Step.{answer-of}
+use Rattle.records.specs.Moved.{answer-of}
 use Rattle.records.proofs.step.answer_of.Statement.{statement}
 use Rattle.records.proofs.step.answer_of.Tie as tie
 use Rattle.records.proofs.step.answer_of.Reads as reads

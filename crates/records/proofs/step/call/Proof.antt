@@ -1,6 +1,7 @@
 use borrow.Author.Needs.{needs}
 use mathlib.Core.Path.{_∙_}
-use Rattle.records.specs.Step.{checked, called, answer-of, craft-of}
+use Rattle.records.specs.Step.{checked, called}
+use Rattle.records.specs.Moved.{answer-of, craft-of}
 use Rattle.records.proofs.step.call.Statement.{statement}
 use Rattle.records.proofs.step.call.Tie as tie
 use Rattle.records.proofs.step.call.Reads as reads

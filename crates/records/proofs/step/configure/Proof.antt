@@ -1,6 +1,7 @@
 use borrow.Author.Needs.{needs}
 use borrow.Author.Tests.{le-leb, lt-leb}
-use Rattle.records.specs.Step.{configure, answer-of, craft-of}
+use Rattle.records.specs.Step.{configure}
+use Rattle.records.specs.Moved.{answer-of, craft-of}
 use Rattle.records.proofs.step.configure.Statement.{statement}
 use Rattle.records.proofs.step.configure.Tie as tie
 use Rattle.records.proofs.step.configure.Reads as reads

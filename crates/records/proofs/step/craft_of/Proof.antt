@@ -1,5 +1,5 @@
 use borrow.Author.Needs.{needs}
-use Rattle.records.specs.Step.{craft-of}
+use Rattle.records.specs.Moved.{craft-of}
 use Rattle.records.proofs.step.craft_of.Statement.{statement}
 use Rattle.records.proofs.step.craft_of.Tie as tie
 use Rattle.records.proofs.step.craft_of.Reads as reads

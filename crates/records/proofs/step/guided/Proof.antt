@@ -1,5 +1,6 @@
 use borrow.Author.Needs.{needs}
-use Rattle.records.specs.Step.{guided, answer-of, craft-of}
+use Rattle.records.specs.Step.{guided}
+use Rattle.records.specs.Moved.{answer-of, craft-of}
 use Rattle.records.proofs.step.guided.Statement.{statement}
 use Rattle.records.proofs.step.guided.Tie as tie
 use Rattle.records.proofs.step.guided.Reads as reads

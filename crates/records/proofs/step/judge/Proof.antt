@@ -11,7 +11,8 @@ use Rattle.records.specs.declared.step.Judged.{Judged}
 use Rattle.records.specs.declared.answer.Refusal.{Refusal}
 use Rattle.records.specs.declared.answer.Refusal.the-variants.{Kind, Short}
 use Rattle.records.specs.Read.{byte-at}
-use Rattle.records.specs.Step.{holding, settled, untaken, answer-of, craft-of, refuse, of-kind, body-length, answered, with-kind, step}
+use Rattle.records.specs.Step.{refuse, of-kind, body-length, answered, with-kind, step}
+use Rattle.records.specs.Moved.{holding, settled, untaken, answer-of, craft-of}
 use Rattle.records.proofs.step.judge.Statement.{statement}
 use Rattle.records.proofs.step.judge.Tie as tie
 use Rattle.records.proofs.step.judge.Reads as reads

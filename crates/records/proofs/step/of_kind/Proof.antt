@@ -2,7 +2,8 @@ use borrow.Author.Needs.{needs}
 use mathlib.Core.Path.{_∙_}
 use native.Mathlib.Omega.{arith}
 use Rattle.records.proofs.Bodies.{needed-by, call-body-long}
-use Rattle.records.specs.Step.{holding, of-kind, body-length}
+use Rattle.records.specs.Step.{of-kind, body-length}
+use Rattle.records.specs.Moved.{holding}
 use Rattle.records.proofs.step.of_kind.Statement.{statement}
 use Rattle.records.proofs.step.of_kind.Tie as tie
 use Rattle.records.proofs.step.of_kind.Reads as reads

@@ -1,5 +1,6 @@
 use borrow.Author.Needs.{needs}
-use Rattle.records.specs.Step.{prime-record, answer-of, craft-of}
+use Rattle.records.specs.Step.{prime-record}
+use Rattle.records.specs.Moved.{answer-of, craft-of}
 use Rattle.records.proofs.step.prime.Statement.{statement}
 use Rattle.records.proofs.step.prime.Tie as tie
 use Rattle.records.proofs.step.prime.Reads as reads

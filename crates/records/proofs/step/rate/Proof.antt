@@ -1,5 +1,6 @@
 use borrow.Author.Needs.{needs}
-use Rattle.records.specs.Step.{rate-record, answer-of, craft-of}
+use Rattle.records.specs.Step.{rate-record}
+use Rattle.records.specs.Moved.{answer-of, craft-of}
 use Rattle.records.proofs.step.rate.Statement.{statement}
 use Rattle.records.proofs.step.rate.Tie as tie
 use Rattle.records.proofs.step.rate.Reads as reads

@@ -11,7 +11,8 @@ use Rattle.records.specs.declared.answer.Answer.{Answer}
 use Rattle.records.specs.declared.answer.Answer.the-variants.{Refused}
 use Rattle.records.specs.declared.step.Moved.{Moved}
 use Rattle.records.specs.Answer.{refusal-bytes, answer-bytes}
-use Rattle.records.specs.Step.{answer-of, craft-of, settled, answered, reported, step}
+use Rattle.records.specs.Step.{answered, reported, step}
+use Rattle.records.specs.Moved.{answer-of, craft-of, settled}
 use Rattle.records.proofs.step.record.Statement.{statement}
 use Rattle.records.proofs.step.record.Tie as tie
 use Rattle.records.proofs.step.record.Reads as reads

@@ -1,5 +1,6 @@
 use borrow.Author.Needs.{needs}
-use Rattle.records.specs.Step.{wind-record, answer-of, craft-of}
+use Rattle.records.specs.Step.{wind-record}
+use Rattle.records.specs.Moved.{answer-of, craft-of}
 use Rattle.records.proofs.step.wind.Statement.{statement}
 use Rattle.records.proofs.step.wind.Tie as tie
 use Rattle.records.proofs.step.wind.Reads as reads

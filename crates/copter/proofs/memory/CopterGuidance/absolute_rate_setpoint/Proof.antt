@@ -1,6 +1,7 @@
 -- `copter::memory::CopterGuidance::absolute_rate_setpoint` meets its contract. Assumes nothing.
 use borrow.Author.Needs.{needs}
-use Rattle.copter.specs.Guide.{piloted, absolute-rate-call, steered}
+use Rattle.copter.specs.Guide.{piloted, absolute-rate-call}
+use Rattle.copter.specs.Plan.{steered}
 use Rattle.copter.proofs.memory.CopterGuidance.absolute_rate_setpoint.Statement.{statement}
 use Rattle.copter.proofs.memory.CopterGuidance.absolute_rate_setpoint.Tie as tie
 

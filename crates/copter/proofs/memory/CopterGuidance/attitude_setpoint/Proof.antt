@@ -1,6 +1,7 @@
 -- `copter::memory::CopterGuidance::attitude_setpoint` meets its contract. Assumes nothing.
 use borrow.Author.Needs.{needs}
-use Rattle.copter.specs.Guide.{piloted, attitude-call, steered}
+use Rattle.copter.specs.Guide.{piloted, attitude-call}
+use Rattle.copter.specs.Plan.{steered}
 use Rattle.copter.proofs.memory.CopterGuidance.attitude_setpoint.Statement.{statement}
 use Rattle.copter.proofs.memory.CopterGuidance.attitude_setpoint.Tie as tie
 

@@ -1,6 +1,7 @@
 -- `copter::memory::CopterGuidance::guide` meets its contract. Assumes nothing.
 use borrow.Author.Needs.{needs}
-use Rattle.copter.specs.Guide.{wind-updated, flown}
+use Rattle.copter.specs.Guide.{wind-updated}
+use Rattle.copter.specs.Plan.{flown}
 use Rattle.copter.proofs.memory.CopterGuidance.guide.Statement.{statement}
 use Rattle.copter.proofs.memory.CopterGuidance.guide.Tie as tie
 

@@ -1,7 +1,8 @@
 -- `copter::memory::CopterGuidance::land_leg` meets its contract. Assumes nothing.
 use borrow.Author.Needs.{needs}
 use Rattle.heading.specs.LegHeading.{toward}
-use Rattle.copter.specs.Guide.{turn-for, flown, land-call}
+use Rattle.copter.specs.Guide.{land-call}
+use Rattle.copter.specs.Plan.{turn-for, flown}
 use Rattle.copter.proofs.memory.CopterGuidance.land_leg.Statement.{statement}
 use Rattle.copter.proofs.memory.CopterGuidance.land_leg.Tie as tie
 

@@ -1,6 +1,7 @@
 -- `copter::memory::CopterGuidance::plan` meets its contract. Assumes nothing.
 use borrow.Author.Needs.{needs}
-use Rattle.copter.specs.Guide.{piloted, attitude-call, absolute-attitude-call, absolute-rate-call, guide-call, steered, steer, flown}
+use Rattle.copter.specs.Guide.{piloted, attitude-call, absolute-attitude-call, absolute-rate-call, guide-call}
+use Rattle.copter.specs.Plan.{steered, steer, flown}
 use Rattle.copter.proofs.memory.CopterGuidance.plan.Statement.{statement}
 use Rattle.copter.proofs.memory.CopterGuidance.plan.Tie as tie
 

@@ -1,6 +1,6 @@
 -- `copter::memory::CopterGuidance::steer` meets its contract. Assumes nothing.
 use borrow.Author.Needs.{needs}
-use Rattle.copter.specs.Guide.{steer}
+use Rattle.copter.specs.Plan.{steer}
 use Rattle.copter.proofs.memory.CopterGuidance.steer.Statement.{statement}
 use Rattle.copter.proofs.memory.CopterGuidance.steer.Tie as tie
 

@@ -1,6 +1,6 @@
 -- `copter::memory::CopterGuidance::turn_for` meets its contract. Assumes nothing.
 use borrow.Author.Needs.{needs}
-use Rattle.copter.specs.Guide.{turn-for}
+use Rattle.copter.specs.Plan.{turn-for}
 use Rattle.copter.proofs.memory.CopterGuidance.turn_for.Statement.{statement}
 use Rattle.copter.proofs.memory.CopterGuidance.turn_for.Tie as tie
 

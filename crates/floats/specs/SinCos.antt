@@ -1,6 +1,6 @@
 -- sinf and cosf, from FreeBSD's msun: s_sinf.c, s_cosf.c, k_sinf.c, k_cosf.c and the medium range of e_rem_pio2f.c.
 -- x is an `f32`. Everything is worked out in `f64`, each operation rounded once, and the result is rounded to `f32`. Assumes nothing.
-use Prim.Native.Nat.{ℕ, _%_}
+use Prim.Native.Nat.{ℕ, _+_, _%_}
 use mathlib.Core.Bool.{Bool, cond}
 use lib.Dec.{eqb}
 use lib.Ieee.{Float, binary32, binary64, toBits, neg, lt, le}
@@ -71,6 +71,10 @@ rem-pio2f x =
     let n = turns x ⊟ toint in
     x ⊟ n ⊠ pio2-1 ⊟ n ⊠ pio2-1t
 
+-- the sine of y and n quarter turns
+unfoldable pub by-quadrant : ℕ → Float → Float
+by-quadrant n y = cond (eqb n 0) (k-sinf y) (cond (eqb n 1) (k-cosf y) (cond (eqb n 2) (k-sinf (neg y)) (neg (k-cosf y))))
+
 -- ---- the ranges, by the size of x: the largest `f32` below π/4, 3π/4, 5π/4, 7π/4 and 9π/4, and 2 ^ -12
 
 abbrev pub upto-pi/4 : Float → Bool
@@ -112,11 +116,7 @@ sinf-far x =
 
 -- any other x. A NaN and an infinity give a NaN, since the remainder is one.
 unfoldable pub sinf-reduced : Float → Float
-sinf-reduced x =
-    let y = rem-pio2f x in
-    cond (eqb (quadrant x) 0) (k-sinf y)
-    (cond (eqb (quadrant x) 1) (k-cosf y)
-    (cond (eqb (quadrant x) 2) (k-sinf (neg y)) (neg (k-cosf y))))
+sinf-reduced x = by-quadrant (quadrant x) (rem-pio2f x)
 
 unfoldable pub sinf : Float → Float
 sinf x =
@@ -138,12 +138,9 @@ cosf-far x =
     (k-sinf (cond (negative x) (neg x ⊟ pio2-times-3) (x ⊟ pio2-times-3)))
     (k-cosf (cond (negative x) (x ⊞ pio2-times-4) (x ⊟ pio2-times-4)))
 
+-- the sine a quarter turn on: k-cosf y, k-sinf (neg y), neg (k-cosf y), k-sinf y, as in the source
 unfoldable pub cosf-reduced : Float → Float
-cosf-reduced x =
-    let y = rem-pio2f x in
-    cond (eqb (quadrant x) 0) (k-cosf y)
-    (cond (eqb (quadrant x) 1) (k-sinf (neg y))
-    (cond (eqb (quadrant x) 2) (neg (k-cosf y)) (k-sinf y)))
+cosf-reduced x = by-quadrant ((quadrant x + 1) % 4) (rem-pio2f x)
 
 unfoldable pub cosf : Float → Float
 cosf x =

@@ -4,10 +4,11 @@
 // The ranges are told by the pattern of x's size, as in the source.
 ghost use mathlib.Core.Path.{_≡_};
 ghost use mathlib.Core.Bool.{cond};
+ghost use Prim.Native.Nat.{_<_};
 ghost use lib.Ieee.{binary32};
 ghost use Rattle.floats.specs.Narrow.{convert};
 ghost use Rattle.floats.specs.Ops.{_⊞_, _⊟_};
-ghost use Rattle.floats.specs.SinCos.{k-sinf, k-cosf, quadrant, rem-pio2f, negative, sinf-near, sinf-far, sinf-reduced, sinf, cosf-near, cosf-far, cosf-reduced, cosf};
+ghost use Rattle.floats.specs.SinCos.{k-sinf, k-cosf, quadrant, rem-pio2f, negative, by-quadrant, sinf-near, sinf-far, sinf-reduced, sinf, cosf-near, cosf-far, cosf-reduced, cosf};
 use crate::bits;
 use crate::compare;
 use crate::narrow;
@@ -93,6 +94,7 @@ fn k_cosf(x: f64) -> f32
 // How many quarter turns are nearest to x, modulo 4.
 fn quadrant(x: f64) -> u64
     ensures { λ r. ⌜ r ≡ quadrant x ⌝ }
+    ensures { λ r. ⌜ r < 4 ⌝ }
 {
     let turns = x * INV_PIO2 + TOINT;
     if turns != turns {
@@ -140,13 +142,10 @@ fn sinf_far(x: f32) -> f32
     -compare::with_sign(x < 0.0, k_cosf(nearer(x, PIO2_TIMES_3)))
 }
 
-// The sine of any x.
-fn sinf_reduced(x: f32) -> f32
-    ensures { λ r. ⌜ r ≡ sinf-reduced x ⌝ }
+// The sine of y in [-π/4, π/4] and n quarter turns, for an n from 0 to 3.
+fn by_quadrant(n: u64, y: f64) -> f32
+    ensures { λ r. ⌜ r ≡ by-quadrant n y ⌝ }
 {
-    let wide = std::num::f32_to_f64_with_nan(x);
-    let y = rem_pio2f(wide);
-    let n = quadrant(wide);
     if n == 0 {
         return k_sinf(y);
     }
@@ -157,6 +156,14 @@ fn sinf_reduced(x: f32) -> f32
         return k_sinf(-y);
     }
     -k_cosf(y)
+}
+
+// The sine of any x.
+fn sinf_reduced(x: f32) -> f32
+    ensures { λ r. ⌜ r ≡ sinf-reduced x ⌝ }
+{
+    let wide = std::num::f32_to_f64_with_nan(x);
+    by_quadrant(quadrant(wide), rem_pio2f(wide))
 }
 
 // The sine of x radians. A NaN and an infinity give a NaN, and a zero itself.
@@ -202,23 +209,12 @@ fn cosf_far(x: f32) -> f32
     k_sinf(std::num::f32_to_f64_with_nan(compare::abs(x)) - PIO2_TIMES_3)
 }
 
-// The cosine of any x.
+// The cosine of any x: the sine a quarter turn on.
 fn cosf_reduced(x: f32) -> f32
     ensures { λ r. ⌜ r ≡ cosf-reduced x ⌝ }
 {
     let wide = std::num::f32_to_f64_with_nan(x);
-    let y = rem_pio2f(wide);
-    let n = quadrant(wide);
-    if n == 0 {
-        return k_cosf(y);
-    }
-    if n == 1 {
-        return k_sinf(-y);
-    }
-    if n == 2 {
-        return -k_cosf(y);
-    }
-    k_sinf(y)
+    by_quadrant((quadrant(wide) + 1) % 4, rem_pio2f(wide))
 }
 
 // The cosine of x radians. A NaN and an infinity give a NaN.

@@ -1,12 +1,11 @@
--- Which case of the definitions of sinf and cosf the code's tests choose: by the pattern of x's size, and by the quadrant. Assumes nothing.
-use mathlib.Core.Path.{_≡_, sym, ap, _∙_}
+-- Which case of the definitions of sinf and cosf the code's tests choose: by the pattern of x's size. Assumes nothing.
+use mathlib.Core.Path.{_≡_}
 use Prim.Native.Nat.{ℕ, _≤_, _<_}
 use mathlib.Core.Bool.{true, cond}
-use lib.Dec.{eqb, lit≤}
+use lib.Dec.{lit≤}
 use lib.Ieee.{Float, binary32, fits, toBits}
-use borrow.Author.Tests.{ne-eqb}
 use Rattle.floats.specs.Compare.{abs}
-use Rattle.floats.specs.SinCos.{upto-pi/4, upto-5pi/4, upto-9pi/4, tiny, quadrant}
+use Rattle.floats.specs.SinCos.{upto-pi/4, upto-5pi/4, upto-9pi/4, tiny}
 use Rattle.floats.proofs.Laws.Sizes.{upto-true, upto-false, below-true, below-false}
 
 -- ---- by the size, whose pattern is r
@@ -30,23 +29,3 @@ module _ (x : Float) (r : ℕ) (good : fits binary32 x ≡ true) (e : r ≡ toBi
   pub size-beyond : 0x3F49_0FDA < r → 0x407B_53D1 < r → 0x40E2_31D5 < r → by-size x small first near far beyond ≡ beyond
   size-beyond h k l =
       simp (upto-false binary32 0x3F49_0FDA (lit≤ tt) x r good e h, upto-false binary32 0x407B_53D1 (lit≤ tt) x r good e k, upto-false binary32 0x40E2_31D5 (lit≤ tt) x r good e l)
-
--- ---- by the quadrant n of x, which the code takes of a wider copy of x
-abbrev pub by-quadrant : ℕ → Float → Float → Float → Float → Float
-by-quadrant n zero one two three = cond (eqb n 0) zero (cond (eqb n 1) one (cond (eqb n 2) two three))
-
-module _ (x wide : Float) (n : ℕ) (same : wide ≡ x) (e : n ≡ quadrant wide) (zero one two three : Float) where
-  turned : quadrant x ≡ n
-  turned = ap quadrant (sym same) ∙ sym e
-
-  pub quadrant-zero : n ≡ 0 → by-quadrant (quadrant x) zero one two three ≡ zero
-  quadrant-zero h = rw (turned ∙ h)
-
-  pub quadrant-one : n ≡ 1 → by-quadrant (quadrant x) zero one two three ≡ one
-  quadrant-one h = rw (turned ∙ h)
-
-  pub quadrant-two : n ≡ 2 → by-quadrant (quadrant x) zero one two three ≡ two
-  quadrant-two h = rw (turned ∙ h)
-
-  pub quadrant-three : (n ≡ 0 → ⊥) → (n ≡ 1 → ⊥) → (n ≡ 2 → ⊥) → by-quadrant (quadrant x) zero one two three ≡ three
-  quadrant-three h k l = simp (turned, ne-eqb n 0 h, ne-eqb n 1 k, ne-eqb n 2 l)

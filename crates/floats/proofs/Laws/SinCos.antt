@@ -13,18 +13,18 @@ use lib.Ieee.Fits.{neg-fits, cond-fits}
 use Rattle.floats.specs.Ops.{f32}
 use Rattle.floats.specs.Compare.{abs, isNegative}
 use Rattle.floats.specs.Narrow.{convert}
-use Rattle.floats.specs.SinCos.{k-sinf, k-cosf, quadrant, rem-pio2f, sinf-near, sinf-far, sinf-reduced, sinf, cosf-near, cosf-far, cosf-reduced, cosf}
+use Rattle.floats.specs.SinCos.{k-sinf, k-cosf, by-quadrant, quadrant, rem-pio2f, sinf-near, sinf-far, sinf-reduced, sinf, cosf-near, cosf-far, cosf-reduced, cosf}
 use Rattle.floats.proofs.Laws.Order.{number, +0, -0, le-or-lt, lt-not-le, le-antisymm, le-trans, eq→le, zeros-equal, eq→same, positive-above, negative-below, neg-neg}
 use Rattle.floats.proofs.Laws.Round.{zero-fits, convert-in-format}
 use Rattle.floats.proofs.Laws.Sum.{add-comm, add-zero}
 
 -- ---- a NaN
 pub sinf-nan : sinf nan ≡ nan
-unfolding sinf sinf-reduced quadrant rem-pio2f k-sinf k-cosf convert ofBits toBits abs lt eq le add sub mul neg
+unfolding sinf sinf-reduced by-quadrant quadrant rem-pio2f k-sinf k-cosf convert ofBits toBits abs lt eq le add sub mul neg
 sinf-nan = refl
 
 pub cosf-nan : cosf nan ≡ nan
-unfolding cosf cosf-reduced quadrant rem-pio2f k-sinf k-cosf convert ofBits toBits abs lt eq le add sub mul neg
+unfolding cosf cosf-reduced by-quadrant quadrant rem-pio2f k-sinf k-cosf convert ofBits toBits abs lt eq le add sub mul neg
 cosf-nan = refl
 
 -- ---- the size by a comparison with zero: only -0 is not below zero and has another size
@@ -78,12 +78,12 @@ module _ (f g : Format) (x a : Float) (good : fits g x ≡ true) (q : T (fits f 
 
 -- ---- the infinities and the zeros
 pub sinf-inf : (s : Bool) → sinf (inf s) ≡ nan
-unfolding sinf sinf-reduced quadrant rem-pio2f k-sinf k-cosf convert ofBits toBits abs lt eq le add sub mul neg
+unfolding sinf sinf-reduced by-quadrant quadrant rem-pio2f k-sinf k-cosf convert ofBits toBits abs lt eq le add sub mul neg
 sinf-inf true = refl
 sinf-inf false = refl
 
 pub cosf-inf : (s : Bool) → cosf (inf s) ≡ nan
-unfolding cosf cosf-reduced quadrant rem-pio2f k-sinf k-cosf convert ofBits toBits abs lt eq le add sub mul neg
+unfolding cosf cosf-reduced by-quadrant quadrant rem-pio2f k-sinf k-cosf convert ofBits toBits abs lt eq le add sub mul neg
 cosf-inf true = refl
 cosf-inf false = refl
 
@@ -107,11 +107,11 @@ k-cosf-fits x = convert-in-format binary32 _
 ruleset in-format = (cond-fits, neg-fits, ofBits-fits, k-sinf-fits, k-cosf-fits)
 
 pub sinf-fits : (x : Float) → T (fits binary32 x) → T (fits binary32 (sinf x))
-unfolding sinf sinf-near sinf-far sinf-reduced
+unfolding sinf sinf-near sinf-far sinf-reduced by-quadrant
 sinf-fits x p = search in-format depth 9
 
 pub cosf-fits : (x : Float) → T (fits binary32 (cosf x))
-unfolding cosf cosf-near cosf-far cosf-reduced
+unfolding cosf cosf-near cosf-far cosf-reduced by-quadrant
 cosf-fits x = search in-format depth 9
 
 -- ---- results of libm, some in each range, as patterns: x, sinf x, cosf x
@@ -131,5 +131,5 @@ rows =
     ∷ []
 
 pub known-results : map (λ (r : ℕ × ℕ × ℕ). (r .0, toBits binary32 (sinf (f32 (r .0))), toBits binary32 (cosf (f32 (r .0))))) rows ≡ rows
-unfolding sinf sinf-near sinf-far sinf-reduced cosf cosf-near cosf-far cosf-reduced quadrant rem-pio2f k-sinf k-cosf convert ofBits toBits abs lt eq le add sub mul neg
+unfolding sinf sinf-near sinf-far sinf-reduced cosf cosf-near cosf-far cosf-reduced by-quadrant quadrant rem-pio2f k-sinf k-cosf convert ofBits toBits abs lt eq le add sub mul neg
 known-results = refl

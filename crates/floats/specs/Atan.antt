@@ -1,5 +1,5 @@
 -- atanf and atan2f, from FreeBSD's msun: s_atanf.c and e_atan2f.c, in `f32`, each operation rounded once. Assumes nothing.
-use Prim.Native.Nat.{ℕ, _+_}
+use Prim.Native.Nat.{_+_}
 use mathlib.Core.Bool.{Bool, cond, _&&_, _||_}
 use lib.Dec.{ltb}
 use lib.Ieee.{Float, nan, binary32, toBits, isNan, neg, lt, le, eq}

@@ -1,7 +1,7 @@
 -- A flight: records one after another. `fly` is what the port's `fly` gives for the bytes that have come in so far; `flight-answers` is what document 01's program writes for
 -- a whole flight file. Assumes nothing.
 use Prim.Native.Nat.{ℕ, zero, suc, _+_, _-_}
-use mathlib.Core.Bool.{Bool, true, false, not, cond, _&&_, _||_}
+use mathlib.Core.Bool.{Bool, false, not, cond, _&&_, _||_}
 use mathlib.Core.List.{List, [], _++_}
 use lib.Dec.{leb, ltb, eqb}
 use lib.ListN.{length, take, drop, replicate}

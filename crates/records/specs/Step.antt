@@ -9,7 +9,6 @@ use lib.Ieee.Scale.{finite}
 use Rattle.floats.specs.Ops.{f32}
 use Rattle.floats.specs.Compare.{abs}
 use Rattle.math.specs.Math.{one}
-use Rattle.wind.specs.declared.state.VehicleState.{VehicleState}
 use Rattle.wind.specs.declared.window.Filter.{Filter}
 use Rattle.wind.specs.declared.window.Filter.the-variants as filters
 use Rattle.copter.specs.Config.{rule}

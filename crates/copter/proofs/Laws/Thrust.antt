@@ -8,7 +8,7 @@ use lib.Ieee.{Float, binary32, nan, isNan, fits, neg, ofBits, lt, le}
 use lib.Ieee.Bits.{is-true, is-false}
 use Rattle.floats.specs.Ops.{_⊖_, _⊗_}
 use Rattle.floats.specs.MinMax.{max}
-use Rattle.floats.proofs.Laws.Order.{number, nan-left, nan-right, le-numbers, lt-numbers, lt→le, le-refl, lt-not-le, le-not-lt}
+use Rattle.floats.proofs.Laws.Order.{nan-left, nan-right, le-numbers, lt-numbers, lt→le, le-refl, lt-not-le, le-not-lt}
 use Rattle.floats.proofs.Laws.Special.{is-nan}
 use Rattle.math.specs.Math.{zero, one, tilt-boost, guard-sink}
 use Rattle.math.specs.declared.vectors.Quaternion.{Quaternion}

@@ -2,7 +2,6 @@
 use mathlib.Core.Path.{_≡_, refl}
 use mathlib.Core.Bool.{true, false, cond}
 use lib.Ieee.{Float}
-use Rattle.math.specs.declared.vectors.Vec2.{Vec2}
 use Rattle.wind.specs.declared.state.VehicleState.{VehicleState}
 use Rattle.wind.specs.declared.window.Filter.{Filter}
 use Rattle.heading.specs.declared.HeadingConfig.{HeadingConfig}
@@ -15,7 +14,7 @@ use Rattle.heading.specs.declared.leg_heading.Goal.the-variants.{Waypoin
 use Rattle.heading.specs.declared.leg_heading.Turn.{Turn}
 use Rattle.heading.specs.declared.leg_heading.Sighted.{Sighted}
 use Rattle.heading.proofs.Laws.Side.{bearing-keeps-wind}
-use Rattle.heading.specs.LegHeading.{fresh, cleared, with-wind, bearing, commanded-turn, along-leg, station-turn, wind-or-leg, here-of, uncommanded, target, held-or-turned, land-target, toward, commanded-angle, sighted}
+use Rattle.heading.specs.LegHeading.{fresh, cleared, with-wind, commanded-turn, along-leg, station-turn, wind-or-leg, here-of, uncommanded, target, held-or-turned, land-target, toward, commanded-angle, sighted}
 
 -- ---- the heading where none is commanded
 

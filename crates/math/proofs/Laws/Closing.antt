@@ -1,18 +1,18 @@
 -- The closing speed is 0 for a distance that is not positive, and with a positive finite deceleration it is a number and not negative, whatever the distance
 -- and whatever p. Assumes nothing.
-use mathlib.Core.Path.{_≡_, refl, subst}
+use mathlib.Core.Path.{_≡_, refl}
 use mathlib.Core.Bool.{Bool, true, false, not, _||_, and-false, cond}
-use Prim.Native.Nat.{ℕ, zero as zeroℕ, suc, _+_, _*_}
+use Prim.Native.Nat.{ℕ, zero as zeroℕ, suc}
 use lib.Dec.{T, T-not, ltb, eqb, eqb·suc-zero}
 use lib.Ieee.{Float, nan, inf, fin, Format, binary32, neg, add, sub, mul, div, lt, eq, le, fits, isNan, unlike, ofBits}
 use lib.Ieee.Bits.{is-true, is-false}
 use lib.Ieee.Fits.{div-fits}
-use lib.Ieee.Positive.{num, den, above}
+use lib.Ieee.Positive.{above}
 use lib.Ieee.Scale.{finite}
 use Rattle.floats.specs.Compare.{isNegative}
 use Rattle.floats.specs.Ops.{_⊖_, _⊗_, _⊘_}
 use Rattle.floats.specs.Sqrt.{sqrt}
-use Rattle.floats.proofs.Laws.Order.{+0, number, le-numbers, lt-numbers, lt→le, lt-by, lt-excludes, lt-le-trans, le-lt-trans, positive-above}
+use Rattle.floats.proofs.Laws.Order.{+0, number, le-numbers, lt-numbers, lt→le, lt-by, lt-le-trans, le-lt-trans, positive-above}
 use Rattle.floats.proofs.Laws.Product.{void-product, void-quotient, mul-nan, div-nan, mul-sign, div-sign, mul-number, mul-nonneg, mul-mono, mul-comm, mul-one, div-one, div-anti, div-number, square-number}
 use Rattle.floats.proofs.Laws.Sum.{sub-pos}
 use Rattle.floats.proofs.Laws.Sqrt.{sqrt-nonneg}

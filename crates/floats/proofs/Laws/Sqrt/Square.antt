@@ -2,7 +2,7 @@
 -- At binary32 that holds from 2 ^ -60 to 2 ^ 61 (`sqrt-square`). The square is off by less than the way to the square of the midpoint with the next value. Assumes nothing.
 use mathlib.Core.Path.{_≡_, refl, sym, ap, _∙_}
 use mathlib.Core.Logic.{⊎-elim}
-use Prim.Native.Nat.{ℕ, suc, _+_, _-_, _*_, _/_, _^_, _≤_, _<_}
+use Prim.Native.Nat.{ℕ, suc, _+_, _-_, _*_, _^_, _≤_, _<_}
 use native.Mathlib.Nat.{le-trans, le-refl, lt-suc-self, le-of-eq, le-of-lt, le-of-suc-le-suc, lt-of-le-of-lt, lt-of-not-le, not-le-of-lt, eq-or-lt-of-le, zero-lt-suc, one-mul, mul-one, mul-assoc, mul-right-comm, mul-mul-mul-comm, mul-pos, mul-le-mul, mul-le-mul-left, mul-le-mul-right, mul-lt-mul-of-pos-right, le-of-mul-le-mul-right, lt-of-mul-lt-mul-right, pow-suc, pow-zero}
 use native.Mathlib.Numerals.{add-one}
 use native.Mathlib.Omega.{arith}

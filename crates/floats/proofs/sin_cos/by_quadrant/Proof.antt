@@ -1,5 +1,4 @@
 -- `floats::sin_cos::by_quadrant` meets its contract: the number of quarter turns chooses the case. Assumes nothing.
-use lib.Dec.{eqb}
 use borrow.Author.Needs.{needs}
 use borrow.Author.Tests.{ne-eqb}
 use Rattle.floats.specs.SinCos.{by-quadrant}

@@ -1,12 +1,12 @@
 -- `floats::sqrt::sqrtf` meets its contract: by that of `is_root` where the guess passes, and else by that of `sqrtf_by_digits`. Assumes nothing.
 use mathlib.Core.Logic.{inl, inr}
 use mathlib.Core.Path.{_≡_, sym, ap, _∙_, subst}
-use mathlib.Core.Bool.{Bool, false, not}
+use mathlib.Core.Bool.{Bool, not}
 use Prim.Native.Nat.{_+_, _/_, _^_}
 use native.Mathlib.Omega.{arith}
 use borrow.Author.Needs.{needs}
 use lib.Dec.{T}
-use lib.Ieee.{Float, inf, binary32, binary64, fits, isNan, le, lt, nanBits, ofBits, toBits}
+use lib.Ieee.{Float, binary32, binary64, fits, isNan, le, ofBits, toBits}
 use lib.Ieee.Fits.{and-i, fits-widens}
 use lib.Ieee.Positive.{positive, above-of-le}
 use lib.Ieee.Bits.{ofBits-toBits, toBits-lt, nanBits-is}

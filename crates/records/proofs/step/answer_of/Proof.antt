@@ -1,9 +1,8 @@
+-- `records::step::answer_of` meets its contract. Assumes nothing.
 use borrow.Author.Needs.{needs}
 use Rattle.records.specs.Moved.{answer-of}
 use Rattle.records.proofs.step.answer_of.Statement.{statement}
 use Rattle.records.proofs.step.answer_of.Tie as tie
-use Rattle.records.proofs.step.answer_of.Reads as reads
-use Rattle.records.proofs.step.answer_of.Lts as lts
 
 enum-known-moved : tie.Need-enum-known-moved
 enum-known-moved c = search needs

@@ -1,18 +1,10 @@
+-- `records::step::call` meets its contract: the checks in document 01's order. Assumes nothing.
 use borrow.Author.Needs.{needs}
 use mathlib.Core.Path.{_∙_}
 use Rattle.records.specs.Step.{checked, called}
 use Rattle.records.specs.Moved.{answer-of, craft-of}
 use Rattle.records.proofs.step.call.Statement.{statement}
 use Rattle.records.proofs.step.call.Tie as tie
-use Rattle.records.proofs.step.call.Reads as reads
-use Rattle.records.proofs.step.call.Lts as lts
-use Rattle.copter.proofs.memory.CopterGuidance.guide.Reads as guide-reads
-use Rattle.records.proofs.read.read_f32.Reads as read-f32-reads
-use Rattle.records.proofs.read.read_state.Reads as read-state-reads
-use Rattle.records.proofs.step.guided.Reads as guided-reads
-use Rattle.records.proofs.step.heading_ok.Reads as heading-ok-reads
-use Rattle.records.proofs.step.refuse.Reads as refuse-reads
-use Rattle.records.proofs.step.time_step_ok.Reads as time-step-ok-reads
 
 enum-known-guidance : tie.Need-enum-known-guidance
 enum-known-guidance c = search needs

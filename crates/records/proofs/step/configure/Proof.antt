@@ -1,15 +1,10 @@
+-- `records::step::configure` meets its contract: the lowest field that breaks its rule decides. Assumes nothing.
 use borrow.Author.Needs.{needs}
 use borrow.Author.Tests.{le-leb, lt-leb}
 use Rattle.records.specs.Step.{configure}
 use Rattle.records.specs.Moved.{answer-of, craft-of}
 use Rattle.records.proofs.step.configure.Statement.{statement}
 use Rattle.records.proofs.step.configure.Tie as tie
-use Rattle.records.proofs.step.configure.Reads as reads
-use Rattle.records.proofs.step.configure.Lts as lts
-use Rattle.copter.proofs.memory.CopterGuidance.new.Reads as new-reads
-use Rattle.records.proofs.read.read_configuration.Reads as read-configuration-reads
-use Rattle.records.proofs.step.lowest_field.Reads as lowest-field-reads
-use Rattle.records.proofs.step.refuse.Reads as refuse-reads
 
 lowest-field-requires : tie.Need-lowest-field-requires
 lowest-field-requires c κs = search needs

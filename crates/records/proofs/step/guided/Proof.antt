@@ -1,11 +1,9 @@
+-- `records::step::guided` meets its contract. Assumes nothing.
 use borrow.Author.Needs.{needs}
 use Rattle.records.specs.Step.{guided}
 use Rattle.records.specs.Moved.{answer-of, craft-of}
 use Rattle.records.proofs.step.guided.Statement.{statement}
 use Rattle.records.proofs.step.guided.Tie as tie
-use Rattle.records.proofs.step.guided.Reads as reads
-use Rattle.records.proofs.step.guided.Lts as lts
-use Rattle.records.proofs.step.setpoint_answer.Reads as setpoint-answer-reads
 
 setpoint-answer-requires : tie.Need-setpoint-answer-requires
 setpoint-answer-requires c κs = search needs

@@ -1,3 +1,4 @@
+-- `records::step::judge` meets its contract: the checks of a record, from its missing kind byte on. Assumes nothing.
 use borrow.Author.Needs.{needs}
 use Prim.Native.Nat.{ℕ, suc, _+_, _-_, _≤_, _<_}
 use mathlib.Core.Path.{_≡_, sym, ap, _∙_}
@@ -15,11 +16,6 @@ use Rattle.records.specs.Step.{refuse, of-kind, body-length, answered, w
 use Rattle.records.specs.Moved.{holding, settled, untaken, answer-of, craft-of}
 use Rattle.records.proofs.step.judge.Statement.{statement}
 use Rattle.records.proofs.step.judge.Tie as tie
-use Rattle.records.proofs.step.judge.Reads as reads
-use Rattle.records.proofs.step.judge.Lts as lts
-use Rattle.records.proofs.step.body_length.Reads as body-length-reads
-use Rattle.records.proofs.step.of_kind.Reads as of-kind-reads
-use Rattle.records.proofs.step.refused.Reads as refused-reads
 
 -- ---- what the definition gives at each check, over any craft, bytes and buffer
 

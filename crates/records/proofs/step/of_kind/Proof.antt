@@ -1,3 +1,4 @@
+-- `records::step::of_kind` meets its contract: the kind chooses. Assumes nothing.
 use borrow.Author.Needs.{needs}
 use mathlib.Core.Path.{_∙_}
 use native.Mathlib.Omega.{arith}
@@ -6,14 +7,6 @@ use Rattle.records.specs.Step.{of-kind, body-length}
 use Rattle.records.specs.Moved.{holding}
 use Rattle.records.proofs.step.of_kind.Statement.{statement}
 use Rattle.records.proofs.step.of_kind.Tie as tie
-use Rattle.records.proofs.step.of_kind.Reads as reads
-use Rattle.records.proofs.step.of_kind.Lts as lts
-use Rattle.records.proofs.step.call.Reads as call-reads
-use Rattle.records.proofs.step.configure.Reads as configure-reads
-use Rattle.records.proofs.step.order_of.Reads as order-of-reads
-use Rattle.records.proofs.step.prime.Reads as prime-reads
-use Rattle.records.proofs.step.rate.Reads as rate-reads
-use Rattle.records.proofs.step.wind.Reads as wind-reads
 
 configure-requires : tie.Need-configure-requires
 unfolding body-length

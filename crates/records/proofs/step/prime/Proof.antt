@@ -1,14 +1,9 @@
+-- `records::step::prime` meets its contract: a craft, then its heading. Assumes nothing.
 use borrow.Author.Needs.{needs}
 use Rattle.records.specs.Step.{prime-record}
 use Rattle.records.specs.Moved.{answer-of, craft-of}
 use Rattle.records.proofs.step.prime.Statement.{statement}
 use Rattle.records.proofs.step.prime.Tie as tie
-use Rattle.records.proofs.step.prime.Reads as reads
-use Rattle.records.proofs.step.prime.Lts as lts
-use Rattle.copter.proofs.memory.CopterGuidance.prime.Reads as prime-reads
-use Rattle.records.proofs.read.read_state.Reads as read-state-reads
-use Rattle.records.proofs.step.heading_ok.Reads as heading-ok-reads
-use Rattle.records.proofs.step.refuse.Reads as refuse-reads
 
 enum-known-guidance : tie.Need-enum-known-guidance
 enum-known-guidance c = search needs

@@ -1,11 +1,9 @@
+-- `records::step::rate` meets its contract. Assumes nothing.
 use borrow.Author.Needs.{needs}
 use Rattle.records.specs.Step.{rate-record}
 use Rattle.records.specs.Moved.{answer-of, craft-of}
 use Rattle.records.proofs.step.rate.Statement.{statement}
 use Rattle.records.proofs.step.rate.Tie as tie
-use Rattle.records.proofs.step.rate.Reads as reads
-use Rattle.records.proofs.step.rate.Lts as lts
-use Rattle.records.proofs.step.refuse.Reads as refuse-reads
 
 enum-told : tie.Need-enum-told
 enum-told c = search needs

@@ -1,3 +1,4 @@
+-- `records::step::record` meets its contract: the room, and then what the record comes to. Assumes nothing.
 use borrow.Author.Needs.{needs}
 use Prim.Native.Nat.{ℕ, _<_}
 use mathlib.Core.Path.{_≡_}
@@ -15,12 +16,6 @@ use Rattle.records.specs.Step.{answered, reported, step}
 use Rattle.records.specs.Moved.{answer-of, craft-of, settled}
 use Rattle.records.proofs.step.record.Statement.{statement}
 use Rattle.records.proofs.step.record.Tie as tie
-use Rattle.records.proofs.step.record.Reads as reads
-use Rattle.records.proofs.step.record.Lts as lts
-use Rattle.records.proofs.step.answer_of.Reads as answer-of-reads
-use Rattle.records.proofs.step.craft_of.Reads as craft-of-reads
-use Rattle.records.proofs.step.judge.Reads as judge-reads
-use Rattle.records.proofs.write.write_answer.Reads as write-answer-reads
 
 no-room : (craft : Craft) (bytes buffer : List ℕ) → length buffer < 25 →
     reported (record { craft = craft; answer = Refused NoRoom; taken = 0; written = 0 }) buffer ≡ step craft bytes buffer

@@ -1,9 +1,7 @@
+-- `records::step::refused` meets its contract. Assumes nothing.
 use borrow.Author.Needs.{needs}
 use Rattle.records.proofs.step.refused.Statement.{statement}
 use Rattle.records.proofs.step.refused.Tie as tie
-use Rattle.records.proofs.step.refused.Reads as reads
-use Rattle.records.proofs.step.refused.Lts as lts
-use Rattle.records.proofs.step.refuse.Reads as refuse-reads
 
 refuse-requires : tie.Need-refuse-requires
 refuse-requires c κs = search needs

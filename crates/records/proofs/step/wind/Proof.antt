@@ -1,12 +1,9 @@
+-- `records::step::wind` meets its contract. Assumes nothing.
 use borrow.Author.Needs.{needs}
 use Rattle.records.specs.Step.{wind-record}
 use Rattle.records.specs.Moved.{answer-of, craft-of}
 use Rattle.records.proofs.step.wind.Statement.{statement}
 use Rattle.records.proofs.step.wind.Tie as tie
-use Rattle.records.proofs.step.wind.Reads as reads
-use Rattle.records.proofs.step.wind.Lts as lts
-use Rattle.copter.proofs.memory.CopterGuidance.wind.Reads as wind-reads
-use Rattle.records.proofs.step.refuse.Reads as refuse-reads
 
 enum-known-guidance : tie.Need-enum-known-guidance
 enum-known-guidance c = search needs

@@ -66,7 +66,7 @@ fn waits(last: bool, bytes: &[u8], room: usize) -> bool
 pub fn fly(before: Craft, bytes: &[u8], last: bool, out: &mut [u8]) -> Flown
     ensures { λ r. ⌜ flown r (now (out .exit)) ≡ fly before (now (bytes .entry)) last (now (out .entry)) ⌝ }
 {
-    let mut craft = before;
+    let mut craft = crate::renew::renewed(before);
     let mut taken = 0;
     let mut written = 0;
     while !waits(last, &bytes[taken..], out.len() - written) {

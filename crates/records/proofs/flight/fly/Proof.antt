@@ -95,14 +95,31 @@ Inv-loop bytes last out₀ craft₀ taken₀ written₀ out craft taken written 
 abbrev μ-loop : tie.MeasureT-loop
 μ-loop bytes last out₀ craft₀ taken₀ written₀ out craft taken written = length bytes - taken
 
+renewed-requires : tie.Need-renewed-requires Inv-loop μ-loop
+renewed-requires c κs = tt
+
 loop-holds : tie.Need-loop-holds Inv-loop μ-loop
 loop-holds c =
     record {
-      budget = length (c .before .before .args .bytes .now);
+      budget = length (c .before .before .before .args .bytes .now);
       enough = omega arith;
       same = refl;
       stands = record { within = omega arith; fits = omega arith; kept = refl };
     }
+
+-- the flight's start, from the craft made anew
+abbrev began : tie.At-loop Inv-loop μ-loop → Flight
+began head = set-out (head .before .renewed .result) (now (head .before .before .before .before .args .out))
+
+-- which is the craft handed in
+from-craft : (head : tie.At-loop Inv-loop μ-loop) →
+    let args = head .before .before .before .before .args in
+    fly-on (length (now (args .bytes))) (args .last) (now (args .bytes)) (began head)
+    ≡ fly-on (length (now (args .bytes))) (args .last) (now (args .bytes)) (set-out (args .before) (now (args .out)))
+from-craft head =
+    let args = head .before .before .before .before .args in
+    ap (λ (craft : Craft). fly-on (length (now (args .bytes))) (args .last) (now (args .bytes)) (set-out craft (now (args .out))))
+    (head .before .renewed .ensures)
 
 -- the flight at the loop's head, and after a record
 abbrev stood : tie.At-loop Inv-loop μ-loop → Flight
@@ -120,46 +137,46 @@ stood-after c ended = standing-after c (c .«record» .result .craft) ended
 
 waits-said : (c : tie.After-waits Inv-loop μ-loop) →
     let head = c .before .before in
-    let args = head .before .before .before .args in
+    let args = head .before .before .before .before .args in
     c .waits .result ≡ waiting (args .last) (now (args .bytes)) (stood head)
 waits-said c =
     let head = c .before .before in
-    let args = head .before .before .before .args in
+    let args = head .before .before .before .before .args in
     waits-there (now (args .bytes)) (head .loop .out) (head .loop .craft) (head .loop .taken) (head .loop .written) (args .last) (c .waits .result) (c .waits .ensures)
 
 ready : (c : tie.Then1 Inv-loop μ-loop) →
     let head = c .before .before .before in
-    let args = head .before .before .before .args in
+    let args = head .before .before .before .before .args in
     waiting (args .last) (now (args .bytes)) (stood head) ≡ false
 ready c = sym (waits-said (c .before)) ∙ not-true (c .before .waits .result) (c .if1 .taken)
 
 further : (c : tie.After-record Inv-loop μ-loop) →
     let head = c .before .before .before .before .before .before in
-    stood-after c (ends-flight (c .«record» .result .answer)) ≡ next (now (head .before .before .before .args .bytes)) (stood head)
+    stood-after c (ends-flight (c .«record» .result .answer)) ≡ next (now (head .before .before .before .before .args .bytes)) (stood head)
 further c =
     let head = c .before .before .before .before .before .before in
-    one-further (now (head .before .before .before .args .bytes)) (head .loop .out) (head .loop .craft) (head .loop .taken) (head .loop .written)
+    one-further (now (head .before .before .before .before .args .bytes)) (head .loop .out) (head .loop .craft) (head .loop .taken) (head .loop .written)
     (c .«record» .result) (c .«record» .last .1 .1 .0) (c .«record» .ensures)
 
 stands-after : (c : tie.After-record Inv-loop μ-loop) →
-    let args = c .before .before .before .before .before .before .before .before .before .args in
+    let args = c .before .before .before .before .before .before .before .before .before .before .args in
     Stands (now (args .bytes)) (length (now (args .out))) (stood-after c (ends-flight (c .«record» .result .answer)))
 stands-after c =
     let head = c .before .before .before .before .before .before in
-    let args = head .before .before .before .args in
+    let args = head .before .before .before .before .args in
     subst (Stands (now (args .bytes)) (length (now (args .out)))) (sym (further c))
-    (next-stood (now (args .bytes)) (args .last) (set-out (args .before) (now (args .out))) (stood head) (head .loop .inv) refl (ready (c .before .before .before)))
+    (next-stood (now (args .bytes)) (args .last) (began head) (stood head) (head .loop .inv) refl (ready (c .before .before .before)))
 
 -- the same with the craft made anew, which is the same craft, and with what the test of the answer said
 came : (c : tie.After-ends-flight Inv-loop μ-loop) (ended : Bool) → c .ends-flight .result ≡ ended →
     let renewed = c .before .before .before in
     let handled = renewed .before .before .before in
     let head = handled .before .before .before .before .before .before in
-    standing-after handled (renewed .renewed .result) ended ≡ next (now (head .before .before .before .args .bytes)) (stood head)
+    standing-after handled (renewed .renewed2 .result) ended ≡ next (now (head .before .before .before .before .args .bytes)) (stood head)
 came c ended said =
     let renewed = c .before .before .before in
     let handled = renewed .before .before .before in
-    ap (λ (craft : Craft). standing-after handled craft ended) (renewed .renewed .ensures)
+    ap (λ (craft : Craft). standing-after handled craft ended) (renewed .renewed2 .ensures)
     ∙ (ap (stood-after handled) (sym said ∙ c .ends-flight .ensures) ∙ further handled)
 
 sub-waits : tie.Need-sub-waits Inv-loop μ-loop
@@ -198,14 +215,16 @@ part-record-end-2 c = omega arith
 record-requires : tie.Need-record-requires Inv-loop μ-loop
 record-requires c κs = tt
 
-renewed-requires : tie.Need-renewed-requires Inv-loop μ-loop
-renewed-requires c κs = tt
+renewed-requires-2 : tie.Need-renewed-requires-2 Inv-loop μ-loop
+renewed-requires-2 c κs = tt
 
 add-taken : tie.Need-add-taken Inv-loop μ-loop
 add-taken c = omega (arith, stands-after (c .before .before .before .before) .within)
 
 add-written : tie.Need-add-written Inv-loop μ-loop
-add-written c = omega (arith, stands-after (c .before .before .before .before .before))
+add-written c =
+    let start = c .before .before .before .before .before .before .before .before .before .before .before .before .before .before .before in
+    omega (arith, stands-after (c .before .before .before .before .before), start .good)
 
 ends-flight-requires : tie.Need-ends-flight-requires Inv-loop μ-loop
 ends-flight-requires c κs = tt
@@ -217,30 +236,31 @@ returns : tie.Need-returns Inv-loop μ-loop
 unfolding flown
 returns c =
     let head = c .before .before .before .before .before .before .before .before .before .before .before .before .before in
-    let args = head .before .before .before .args in
+    let args = head .before .before .before .before .args in
     let is-next = came (c .before) true (c .if2 .taken) in
     is-next
-    ∙ sym (next-over (now (args .bytes)) (args .last) (set-out (args .before) (now (args .out))) (stood head) (head .loop .inv) refl
+    ∙ (sym (next-over (now (args .bytes)) (args .last) (began head) (stood head) (head .loop .inv) refl
     (ready (c .before .before .before .before .before .before .before .before .before .before))
     (sym (ap (λ (f : Flight). f .ended) is-next)))
+    ∙ from-craft head)
 
 loop-less : tie.Need-loop-less Inv-loop μ-loop
 loop-less c =
     let head = c .before .before .before .before .before .before .before .before .before .before .before .before .before in
-    let args = head .before .before .before .args in
+    let args = head .before .before .before .before .args in
     let bytes = now (args .bytes) in
     let size = length (now (args .out)) in
     let go = ready (c .before .before .before .before .before .before .before .before .before .before) in
     let is-next = came (c .before) false (c .if2 .left) in
     let moved = next-moves (args .last) bytes size (stood head) (head .loop .inv .stands) go (sym (ap (λ (f : Flight). f .ended) is-next)) in
-    let some = some-left bytes (args .last) (set-out (args .before) (now (args .out))) (stood head) (head .loop .inv) refl go in
+    let some = some-left bytes (args .last) (began head) (stood head) (head .loop .inv) refl go in
     omega (arith, ap (λ (f : Flight). f .taken) is-next)
 
 loop-again : tie.Need-loop-again Inv-loop μ-loop
 loop-again c =
     let head = c .before .before .before .before .before .before .before .before .before .before .before .before .before in
-    let args = head .before .before .before .args in
-    let start = set-out (args .before) (now (args .out)) in
+    let args = head .before .before .before .before .args in
+    let start = began head in
     let is-next = came (c .before) false (c .if2 .left) in
     subst (Underway (now (args .bytes)) (args .last) start) (sym is-next)
     (next-underway (now (args .bytes)) (args .last) start (stood head) (head .loop .inv) refl
@@ -254,9 +274,9 @@ returns-2 : tie.Need-returns-2 Inv-loop μ-loop
 unfolding flown
 returns-2 c =
     let head = c .before .before .before in
-    let args = head .before .before .before .args in
+    let args = head .before .before .before .before .args in
     let held = sym (waits-said (c .before)) ∙ not-false (c .before .waits .result) (c .if1 .left) in
-    sym (waited (now (args .bytes)) (args .last) (set-out (args .before) (now (args .out))) (stood head) (head .loop .inv) refl held)
+    sym (waited (now (args .bytes)) (args .last) (began head) (stood head) (head .loop .inv) refl held) ∙ from-craft head
 
 pub fly-spec : {M : Type 1} → statement M
 fly-spec =
@@ -264,6 +284,7 @@ fly-spec =
     (tie.spec
     Inv-loop
     μ-loop
+    renewed-requires
     loop-holds
     sub-waits
     part-waits-start
@@ -277,7 +298,7 @@ fly-spec =
     part-record-start-2
     part-record-end-2
     record-requires
-    renewed-requires
+    renewed-requires-2
     add-taken
     add-written
     ends-flight-requires

@@ -174,6 +174,10 @@ mul-neg f (fin s m e) (fin t n d) = ap (λ (b : Bool). round f b (m * up e * (n 
 pub mul-neg-right : (f : Format) (x y : Float) → mul f x (neg y) ≡ neg (mul f x y)
 mul-neg-right f x y = mul-comm f x (neg y) ∙ mul-neg f y x ∙ ap neg (mul-comm f y x)
 
+-- a number and its opposite have one square
+pub neg-square : (f : Format) (x : Float) → mul f (neg x) (neg x) ≡ mul f x x
+neg-square f x = mul-neg f x (neg x) ∙ ap neg (mul-neg-right f x x) ∙ Order.neg-neg (mul f x x)
+
 pub div-neg : (f : Format) (x y : Float) → div f (neg x) y ≡ neg (div f x y)
 unfolding div neg
 div-neg f nan y = refl

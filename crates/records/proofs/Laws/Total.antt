@@ -29,6 +29,7 @@ use Rattle.records.specs.Ready as readiness
 use Rattle.records.specs.Answer.{number, refusal-bytes, answer-bytes, accepted}
 use Rattle.records.specs.Read.{byte-at, float-at, state-at}
 use Rattle.records.specs.Step.{Verdict, Outcome, lowest, time-step-ok, heading-ok, marks-ok, refuse, setpoint-answer, guided, configure, prime-record, checked, called, rate-record, wind-answer, wind-record, of-kind, body-length, answered, with-kind, step}
+use Rattle.records.proofs.Laws.Counts.{by-test}
 use Rattle.records.specs.Total.{has-craft, fields-ok, call-ok, body-ok, record-ok, Keeps, takes-none, Refusing, Total}
 
 -- ---- what is accepted, kind by kind
@@ -216,9 +217,9 @@ record Kept (craft : Craft) (verdict : Verdict) : Type 0 where
 abbrev KeptIfRefused : Craft → Verdict → Type 0
 KeptIfRefused craft verdict = ok verdict ≡ false → Kept craft verdict
 
-either-kept : (craft : Craft) (b : Bool) (v w : Verdict) → KeptIfRefused craft v → KeptIfRefused craft w → KeptIfRefused craft (cond b v w)
-either-kept craft true v w first second = first
-either-kept craft false v w first second = second
+-- either of two verdicts
+either-kept : (craft : Craft) (b : Bool) {v w : Verdict} → KeptIfRefused craft v → KeptIfRefused craft w → KeptIfRefused craft (cond b v w)
+either-kept craft b first second = by-test (KeptIfRefused craft) b (λ held. first) (λ failed. second)
 
 -- an accepted verdict is not refused
 never-refused : (craft : Craft) (verdict : Verdict) → ok verdict ≡ true → KeptIfRefused craft verdict
@@ -230,13 +231,13 @@ kept craft refusal room takes refusing = record { refusal = refusal; with-room =
 configure-kept : (craft : Craft) (body : List ℕ) → KeptIfRefused craft (configure craft body)
 unfolding configure
 configure-kept craft body =
-    either-kept craft (leb (lowest body 1 50) 50) _ _ (kept craft (Field (lowest body 1 50)) refl refl) (never-refused craft _ refl)
+    either-kept craft (leb (lowest body 1 50) 50) (kept craft (Field (lowest body 1 50)) refl refl) (never-refused craft _ refl)
 
 prime-kept : (craft : Craft) (guidance : Guidance) (body : List ℕ) → KeptIfRefused craft (prime-record craft guidance body)
 unfolding prime-record
 prime-kept craft Unconfigured body = kept craft NotConfigured refl refl
 prime-kept craft (Configured g) body =
-    either-kept craft (heading-ok (state-at body 0 .«heading_rad»)) _ _ (never-refused craft _ refl) (kept craft Heading refl refl)
+    either-kept craft (heading-ok (state-at body 0 .«heading_rad»)) (never-refused craft _ refl) (kept craft Heading refl refl)
 
 checks-kept : (m t h : Bool) (craft : Craft) (g : CopterGuidance) (dt : Float) (state : VehicleState) (command : Command) →
     KeptIfRefused craft
@@ -271,24 +272,20 @@ of-kind-kept : (kind : ℕ) (craft : Craft) (body : List ℕ) → KeptIfRefused 
 unfolding of-kind
 of-kind-kept kind craft body =
     let guidance = craft .guidance in
-    either-kept craft (eqb kind 1) _ _ (configure-kept craft body)
-    (either-kept craft (eqb kind 2) _ _ (prime-kept craft guidance body)
-    (either-kept craft (eqb kind 3) _ _ (call-kept craft guidance body true _)
-    (either-kept craft (eqb kind 4) _ _ (rate-kept craft guidance)
-    (either-kept craft (eqb kind 5) _ _ (call-kept craft guidance body (marks-ok body) _)
-    (either-kept craft (eqb kind 6) _ _ (call-kept craft guidance body true _)
-    (either-kept craft (eqb kind 7) _ _ (call-kept craft guidance body true _)
-    (either-kept craft (eqb kind 8) _ _ (call-kept craft guidance body true _) (wind-kept craft guidance))))))))
+    either-kept craft (eqb kind 1) (configure-kept craft body)
+    (either-kept craft (eqb kind 2) (prime-kept craft guidance body)
+    (either-kept craft (eqb kind 3) (call-kept craft guidance body true _)
+    (either-kept craft (eqb kind 4) (rate-kept craft guidance)
+    (either-kept craft (eqb kind 5) (call-kept craft guidance body (marks-ok body) _)
+    (either-kept craft (eqb kind 6) (call-kept craft guidance body true _)
+    (either-kept craft (eqb kind 7) (call-kept craft guidance body true _)
+    (either-kept craft (eqb kind 8) (call-kept craft guidance body true _) (wind-kept craft guidance))))))))
 
 -- ---- what a refused record leaves
 
 module _ (craft : Craft) (bytes buffer : List ℕ) where
   abbrev RefusingIfRefused : Outcome → Type 0
   RefusingIfRefused outcome = accepted (outcome .answer) ≡ false → Refusing craft bytes buffer outcome
-
-  either-refusing : (b : Bool) (v w : Outcome) → RefusingIfRefused v → RefusingIfRefused w → RefusingIfRefused (cond b v w)
-  either-refusing true v w first second = first
-  either-refusing false v w first second = second
 
   -- a refusal that is written
   refusal-written : (refusal : Refusal) (taken : ℕ) → eqb (number refusal) 9 ≡ false → ltb (length buffer) 25 ≡ false
@@ -330,22 +327,18 @@ module _ (craft : Craft) (bytes buffer : List ℕ) where
       let kind = byte-at bytes 0 in
       let rest = drop 1 bytes in
       let needed = body-length kind in
-      either-refusing (ltb kind 1) _ _ (λ refusing. refusal-written Kind 0 refl room refl)
-      (either-refusing (ltb 9 kind) _ _ (λ refusing. refusal-written Kind 0 refl room refl)
-      (either-refusing (ltb (length rest) needed) _ _ (λ refusing. refusal-written Short 0 refl room refl)
-      (λ refusing. verdict-refusing (of-kind kind craft (take needed rest)) room (of-kind-kept kind craft (take needed rest) refusing))))
-
-  step-refusing : (b : Bool) → ltb (length buffer) 25 ≡ b
-      → RefusingIfRefused
-      (cond b (answered (refuse craft NoRoom) 0 buffer)
-      (cond (eqb (length bytes) 0) (answered (refuse craft Short) 0 buffer) (with-kind (byte-at bytes 0) craft (drop 1 bytes) buffer)))
-  step-refusing true short = λ refusing. no-room short
-  step-refusing false room =
-      either-refusing (eqb (length bytes) 0) _ _ (λ refusing. refusal-written Short 0 refl room refl) (with-kind-refusing room)
+      by-test RefusingIfRefused (ltb kind 1) (λ below refusing. refusal-written Kind 0 refl room refl)
+      (λ from-one. by-test RefusingIfRefused (ltb 9 kind) (λ above refusing. refusal-written Kind 0 refl room refl)
+      (λ to-nine. by-test RefusingIfRefused (ltb (length rest) needed) (λ short refusing. refusal-written Short 0 refl room refl)
+      (λ whole refusing. verdict-refusing (of-kind kind craft (take needed rest)) room (of-kind-kept kind craft (take needed rest) refusing))))
 
   refused-stays : record-ok craft bytes buffer ≡ false → Refusing craft bytes buffer (step craft bytes buffer)
   unfolding step
-  refused-stays not-ok = step-refusing (ltb (length buffer) 25) refl (accepted-exactly craft bytes buffer ∙ not-ok)
+  refused-stays not-ok =
+      by-test RefusingIfRefused (ltb (length buffer) 25) (λ short refusing. no-room short)
+      (λ room. by-test RefusingIfRefused (eqb (length bytes) 0) (λ empty refusing. refusal-written Short 0 refl room refl)
+      (λ some. with-kind-refusing room))
+      (accepted-exactly craft bytes buffer ∙ not-ok)
 
 -- ---- the claim
 

@@ -1,20 +1,15 @@
 -- The drag's slope is the same for an air velocity and its opposite. Assumes nothing.
-use mathlib.Core.Path.{_≡_, ap, _∙_, refl}
+use mathlib.Core.Path.{_≡_, refl}
 use mathlib.Core.Bool.{Bool, true, false, cond}
 use lib.Ieee.{Float, binary32, neg, lt}
-use Rattle.floats.specs.Ops.{_⊗_}
-use Rattle.floats.proofs.Laws.Order.{neg-neg}
-use Rattle.floats.proofs.Laws.Product.{mul-neg, mul-neg-right}
+use Rattle.floats.proofs.Laws.Product.{neg-square}
 use Rattle.math.specs.Math.{zero}
 use Rattle.wind.specs.Drag.{slope, against}
 use Rattle.wind.specs.declared.drag.AxisDrag.{AxisDrag}
 
-neg-square : (air : Float) → neg air ⊗ neg air ≡ air ⊗ air
-neg-square air = mul-neg binary32 air (neg air) ∙ ap neg (mul-neg-right binary32 air air) ∙ neg-neg (air ⊗ air)
-
 slope-neg : (axis : AxisDrag) (air axial : Float) → slope axis (neg air) axial ≡ slope axis air axial
 unfolding slope
-slope-neg axis air axial = rw (neg-square air)
+slope-neg axis air axial = rw (neg-square binary32 air)
 
 pub slope-against : (axis : AxisDrag) (force speed axial : Float) → slope axis (against force speed) axial ≡ slope axis speed axial
 unfolding against

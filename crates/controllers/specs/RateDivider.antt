@@ -1,8 +1,9 @@
 -- The rate divider, from rate_divider.rs. Assumes nothing.
 use mathlib.Core.Bool.{cond}
+use lib.Dec.{T}
 use lib.Ieee.{Float, le}
-use Rattle.floats.specs.Ops.{_⊕_, _⊖_, _⊗_}
-use Rattle.math.specs.Math.{zero, half}
+use Rattle.floats.specs.Ops.{f32, _⊕_, _⊖_, _⊗_}
+use Rattle.math.specs.Math.{zero, half, one}
 use Rattle.controllers.specs.declared.rate_divider.RateDivider.{RateDivider}
 use Rattle.controllers.specs.declared.rate_divider.RateDivider.the-variants.{NeverRan, Elapsed}
 use Rattle.controllers.specs.declared.rate_divider.Due.the-variants.{Step, NotYet}
@@ -21,3 +22,23 @@ ran = Elapsed zero
 
 abbrev pub reset : RateDivider
 reset = NeverRan
+
+-- ---- what is said of it
+
+-- 1/4,096 s, the shortest time step that is accepted
+abbrev pub shortest : Float
+shortest = f32 0x3980_0000
+
+-- 16,777,216 s, which is 2 ^ 24
+abbrev pub longest : Float
+longest = f32 0x4B80_0000
+
+abbrev pub Accepted : Float → Type 0
+Accepted dt = T (le shortest dt) × T (le dt one)
+
+abbrev pub Legal : Float → Type 0
+Legal t = T (le shortest t) × T (le t longest)
+
+abbrev pub Bounded : RateDivider → Type 0
+Bounded NeverRan = Unit {0}
+Bounded (Elapsed t) = T (le zero t) × T (le t longest)

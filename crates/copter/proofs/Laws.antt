@@ -5,7 +5,6 @@ pub mod Thrust
 pub mod Worked
 -- Of whole calls.
 pub mod Calls
-pub mod Answers
 pub mod Heading
 pub mod Navigation
 pub mod Piloted
@@ -13,3 +12,4 @@ pub mod Wind
 -- Over any list of operations.
 pub mod Norm
 pub mod Reached
+pub mod Facts

@@ -5,4 +5,5 @@ pub mod Thrust
 pub mod Descent
 pub mod Tilt
 pub mod Guide
+pub mod Calls
 pub mod Plan

@@ -8,6 +8,7 @@ pub mod Product
 pub mod Grid
 pub mod Near
 pub mod Remainder
+pub mod Sterbenz
 -- Signs, special values and bit patterns.
 pub mod Special
 pub mod Sign

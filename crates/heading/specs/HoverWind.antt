@@ -1,5 +1,6 @@
 -- Wind memory and when it changes, from `HoverWind` of hover_wind.rs, without its pause. Assumes nothing.
 use mathlib.Core.Bool.{Bool, false, cond}
+use lib.Dec.{T}
 use lib.Ieee.{Float, lt}
 use lib.Ieee.Scale.{finite}
 use Rattle.floats.specs.Ops.{_⊕_}
@@ -45,3 +46,10 @@ update self dt config height state =
 
 abbrev pub estimate : HoverWind → Filter
 estimate self = self .estimator .filter
+
+-- ---- what is said of it
+
+-- no ground, or a finite height
+abbrev pub FiniteGround : GroundAltitude → Type 0
+FiniteGround Nothing = Unit {0}
+FiniteGround (Metres height) = T (finite height)

@@ -1,4 +1,5 @@
 -- The heading along a waypoint leg, from leg_heading.rs. Assumes nothing.
+use mathlib.Core.Path.{_≡_}
 use mathlib.Core.Bool.{Bool, true, false, cond, _&&_}
 use lib.Ieee.{Float, lt, le}
 use lib.Ieee.Scale.{finite}
@@ -199,3 +200,14 @@ sighted self config (Waypoint position commanded) state =
     let holds = on-station (leg .«bearing_rad») config (minus position (here-of state)) in
     record { memory = leg .memory; «bearing_rad» = leg .«bearing_rad»; holds = holds; lands = false }
 sighted self config Land state = record { memory = cleared self; «bearing_rad» = Nothing; holds = true; lands = true }
+
+-- ---- what is said of it
+
+-- A position that is not the leg's is new; with no leg remembered every one is.
+abbrev pub New : LegMemory → Vec2 → Type 0
+New legs.Nothing position = Unit {0}
+New (legs.Flown leg) position = on-leg leg position ≡ false
+
+-- the leg that starts at a new position
+abbrev pub started : HeadingConfig → Vec2 → Vec2 → Leg
+started config position here = record { «to_m» = position; «bearing_rad» = leg-bearing config (minus position here) }

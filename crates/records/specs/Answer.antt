@@ -2,14 +2,19 @@
 use Prim.Native.Nat.{ℕ, _+_}
 use mathlib.Core.Bool.{Bool, true, false, cond}
 use mathlib.Core.List.{List, [], _∷_, _++_}
+use mathlib.Core.Option.{Option, none, some}
 use lib.Dec.{eqb}
-use lib.Ieee.{Float, binary32, toBits}
-use Rattle.floats.specs.Bits.{le-bytes}
+use lib.Ieee.{Float}
 use Rattle.copter.specs.declared.commands.Flags.{Flags}
 use Rattle.records.specs.declared.answer.Refusal.{Refusal}
 use Rattle.records.specs.declared.answer.Refusal.the-variants.{Field, TimeStep, Heading, Rate, Kind, Short, NotConfigured, Mark, NoRoom}
 use Rattle.records.specs.declared.answer.Answer.{Answer}
 use Rattle.records.specs.declared.answer.Answer.the-variants.{Attitude, BodyRate, Refused, Done, NoWind, Wind}
+use Rattle.records.specs.Layout.{float-bytes}
+
+abbrev pub is-none : Option Refusal → Bool
+is-none none = true
+is-none (some refusal) = false
 
 abbrev pub number : Refusal → ℕ
 number (Field field) = 1
@@ -34,18 +39,18 @@ field-of NotConfigured = 0
 field-of Mark = 0
 field-of NoRoom = 0
 
+-- the refusal that an answer is, or none
+abbrev pub refusal-of : Answer → Option Refusal
+refusal-of (Refused refusal) = some refusal
+refusal-of (Attitude setpoint flags) = none
+refusal-of (BodyRate setpoint flags) = none
+refusal-of Done = none
+refusal-of NoWind = none
+refusal-of (Wind estimate) = none
+
 -- no refusal
 abbrev pub accepted : Answer → Bool
-accepted (Refused refusal) = false
-accepted (Attitude setpoint flags) = true
-accepted (BodyRate setpoint flags) = true
-accepted Done = true
-accepted NoWind = true
-accepted (Wind estimate) = true
-
--- a float, the low byte first; a NaN is 7FC00000
-abbrev pub float-bytes : Float → List ℕ
-float-bytes x = le-bytes (toBits binary32 x)
+accepted answer = is-none (refusal-of answer)
 
 -- bit 0 tilt saturated, bit 1 thrust saturated, bit 2 idle
 abbrev pub flag-bits : Flags → ℕ

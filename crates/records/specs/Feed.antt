@@ -21,8 +21,10 @@ use Rattle.records.specs.declared.answer.Answer.{Answer}
 use Rattle.records.specs.declared.step.Handled.{Handled}
 use Rattle.records.specs.Answer.{accepted}
 use Rattle.records.specs.Craft.{unconfigured}
-use Rattle.records.specs.Read.{byte-at, state-at, absolute-attitude-command}
-use Rattle.records.specs.Step.{Outcome, step, reported, body-length}
+use Rattle.records.specs.Layout.{byte-at}
+use Rattle.records.specs.Kinds.{kind-of, body-length, state-start, command-start}
+use Rattle.records.specs.Read.{state-at, absolute-attitude-command}
+use Rattle.records.specs.Step.{Outcome, step, reported}
 
 -- ---- feeds
 
@@ -93,11 +95,11 @@ port-replies (link ∷ links) =
 
 -- ---- the ending call and the priming
 
-abbrev pub kind-of : Entry → ℕ
-kind-of entry = byte-at (entry .bytes) 0
+abbrev pub kind-byte : Entry → ℕ
+kind-byte entry = byte-at (entry .bytes) 0
 
 abbrev pub body-of : Entry → List ℕ
-body-of entry = take (body-length (kind-of entry)) (drop 1 (entry .bytes))
+body-of entry = take (body-length (kind-of (kind-byte entry))) (drop 1 (entry .bytes))
 
 abbrev pub Accepted : Craft → Entry → Type 0
 Accepted craft entry = T (accepted (outcome craft entry .answer))
@@ -105,19 +107,19 @@ Accepted craft entry = T (accepted (outcome craft entry .answer))
 -- an accepted call of kind 6 or 8
 pub record Ending (craft : Craft) (entry : Entry) : Type 0 where
   pub accepted : Accepted craft entry
-  pub six-or-eight : (kind-of entry ≡ 6) ⊎ (kind-of entry ≡ 8)
+  pub six-or-eight : (kind-byte entry ≡ 6) ⊎ (kind-byte entry ≡ 8)
 
 -- the commanded heading of kind 6, the estimated one of kind 8
 abbrev pub heading-of : ℕ → List ℕ → Float
-heading-of kind body = cond (eqb kind 6) (absolute-attitude-command body .«heading_rad») (state-at body 4 .«heading_rad»)
+heading-of kind body = cond (eqb kind 6) (absolute-attitude-command (drop command-start body) .«heading_rad») (state-at body state-start .«heading_rad»)
 
 abbrev pub ending-heading : Entry → Float
-ending-heading ending = heading-of (kind-of ending) (body-of ending)
+ending-heading ending = heading-of (kind-byte ending) (body-of ending)
 
 -- an accepted priming
 pub record Priming (craft : Craft) (entry : Entry) : Type 0 where
   pub accepted : Accepted craft entry
-  pub kind-two : kind-of entry ≡ 2
+  pub kind-two : kind-byte entry ≡ 2
 
 -- ---- what the machine is set to
 

@@ -3,15 +3,16 @@
 use Prim.Native.Nat.{ℕ, zero, suc, _+_, _-_}
 use mathlib.Core.Bool.{Bool, false, not, cond, _&&_, _||_}
 use mathlib.Core.List.{List, [], _++_}
-use lib.Dec.{leb, ltb, eqb}
+use lib.Dec.{ltb, eqb}
 use lib.ListN.{length, take, drop, replicate}
 use Rattle.records.specs.declared.craft.Craft.{Craft}
 use Rattle.records.specs.declared.answer.Answer.{Answer}
 use Rattle.records.specs.declared.answer.Answer.the-variants.{Attitude, BodyRate, Refused, Done, NoWind, Wind}
 use Rattle.records.specs.declared.flight.Flown.{Flown}
 use Rattle.records.specs.Answer.{number, answer-bytes}
-use Rattle.records.specs.Read.{byte-at}
-use Rattle.records.specs.Step.{Outcome, body-length, step}
+use Rattle.records.specs.Layout.{byte-at}
+use Rattle.records.specs.Kinds.{kind-of, body-length}
+use Rattle.records.specs.Step.{Outcome, answer-room, step}
 
 -- refusals 5 and 6 end a flight
 abbrev pub ends-flight : Answer → Bool
@@ -22,15 +23,13 @@ ends-flight Done = false
 ends-flight NoWind = false
 ends-flight (Wind estimate) = false
 
--- a record of a known kind with less than its whole body
+-- a record with less than its whole body; an unknown kind has none
 unfoldable pub cut-short : List ℕ → Bool
-cut-short bytes =
-    let kind = byte-at bytes 0 in
-    leb 1 kind && (leb kind 9 && ltb (length bytes - 1) (body-length kind))
+cut-short bytes = ltb (length bytes - 1) (body-length (kind-of (byte-at bytes 0)))
 
 -- The next record is left for later: no byte of it is there, there is no room for its answer, or it is cut short and more bytes may follow.
 unfoldable pub waits : Bool → List ℕ → ℕ → Bool
-waits last bytes room = eqb (length bytes) 0 || (ltb room 25 || (not last && cut-short bytes))
+waits last bytes room = eqb (length bytes) 0 || (ltb room answer-room || (not last && cut-short bytes))
 
 -- What has come of a flight so far: the craft, the bytes taken and written, whether it is over, and the whole buffer.
 pub record Flight : Type 0 where
@@ -67,7 +66,7 @@ abbrev pub fly : Craft → List ℕ → Bool → List ℕ → Flight
 fly craft bytes last buffer = fly-on (length bytes) last bytes (set-out craft buffer)
 
 -- what the port's `fly` gives, with the buffer that it leaves
-unfoldable pub flown : Flown → List ℕ → Flight
+abbrev pub flown : Flown → List ℕ → Flight
 flown f buffer = record { craft = f .craft; taken = f .taken; written = f .written; ended = f .ended; buffer = buffer }
 
 -- ---- a whole flight file
@@ -76,7 +75,7 @@ flown f buffer = record { craft = f .craft; taken = f .taken; written = f .writt
 unfoldable pub answers : ℕ → Craft → List ℕ → List ℕ
 answers zero craft bytes = []
 answers (suc n) craft bytes =
-    let outcome = step craft bytes (replicate 25 0) in
+    let outcome = step craft bytes (replicate answer-room 0) in
     cond (eqb (length bytes) 0) []
     (answer-bytes (outcome .answer) ++ cond (ends-flight (outcome .answer)) [] (answers n (outcome .craft) (drop (outcome .taken) bytes)))
 

@@ -1,11 +1,16 @@
 -- The definitions that the contracts cite. Assumes nothing.
+pub mod Layout
+pub mod Kinds
+pub mod Values
 pub mod Answer
 pub mod Craft
 pub mod Read
-pub mod Ready
 pub mod Step
-pub mod Total
-pub mod Moved
-pub mod Feed
 pub mod Flight
+-- The claims.
+pub mod Total
+pub mod Feed
+pub mod Facts
 pub mod Worked
+-- How the port divides a record and a flight.
+pub mod Inner

@@ -1,21 +1,13 @@
--- What a record does: document 01's machine, one record at a time. Assumes nothing.
-use Prim.Native.Nat.{ℕ, zero, suc, _-_, _*_}
-use mathlib.Core.Bool.{Bool, true, not, cond, _&&_, _||_}
+-- What a record does: document 01's machine, one record at a time. A body is decoded (Read.antt), and what it says is performed. Assumes nothing.
+use Prim.Native.Nat.{ℕ, suc}
+use mathlib.Core.Bool.{cond}
 use mathlib.Core.List.{List, _++_}
-use lib.Dec.{leb, ltb, eqb}
+use lib.Dec.{ltb, eqb}
 use lib.ListN.{length, take, drop}
-use lib.Ieee.{Float, le}
-use lib.Ieee.Scale.{finite}
-use Rattle.floats.specs.Ops.{f32}
-use Rattle.floats.specs.Compare.{abs}
-use Rattle.math.specs.Math.{one}
 use Rattle.wind.specs.declared.window.Filter.{Filter}
 use Rattle.wind.specs.declared.window.Filter.the-variants as filters
-use Rattle.copter.specs.Config.{rule}
 use Rattle.copter.specs.Guide.{guide-call, new-craft, prime, wind-reading}
 use Rattle.copter.specs.declared.memory.CopterGuidance.{CopterGuidance}
-use Rattle.copter.specs.declared.commands.Command.{Command}
-use Rattle.copter.specs.declared.commands.Command.the-variants as commands
 use Rattle.copter.specs.declared.commands.Setpoint.{Setpoint}
 use Rattle.copter.specs.declared.commands.Setpoint.the-variants as setpoints
 use Rattle.copter.specs.declared.commands.Flags.{Flags}
@@ -24,120 +16,101 @@ use Rattle.records.specs.declared.craft.Guidance.{Guidance}
 use Rattle.records.specs.declared.craft.Guidance.the-variants.{Unconfigured, Configured}
 use Rattle.records.specs.declared.craft.Craft.{Craft}
 use Rattle.records.specs.declared.answer.Refusal.{Refusal}
-use Rattle.records.specs.declared.answer.Refusal.the-variants.{Field, TimeStep, Heading, Rate, Kind, Short, NotConfigured, Mark, NoRoom}
+use Rattle.records.specs.declared.answer.Refusal.the-variants as refusals
 use Rattle.records.specs.declared.answer.Answer.{Answer}
-use Rattle.records.specs.declared.answer.Answer.the-variants.{Attitude, BodyRate, Refused, Done, NoWind, Wind}
-use Rattle.records.specs.Ready.{Ready}
-use Rattle.records.specs.Ready as readiness
+use Rattle.records.specs.declared.answer.Answer.the-variants as answers
+use Rattle.records.specs.declared.kinds.Kind.{Kind}
+use Rattle.records.specs.declared.kinds.Kind.the-variants as kinds
+use Rattle.records.specs.declared.read.Input.{Input}
+use Rattle.records.specs.declared.read.Input.the-variants as inputs
+use Rattle.records.specs.declared.read.Read.{Read}
+use Rattle.records.specs.declared.read.Read.the-variants as reading
+use Rattle.records.specs.declared.read.Configuration.{Configuration}
+use Rattle.records.specs.declared.read.Configuration.the-variants.{Of, Broken}
+use Rattle.records.specs.declared.turn.Performed.{Performed}
 use Rattle.records.specs.declared.step.Handled.{Handled}
 use Rattle.records.specs.Answer.{answer-bytes}
-use Rattle.records.specs.Read.{byte-at, float-at, state-at, configuration, attitude-command, waypoint-command, absolute-attitude-command, land-command, absolute-rate-command}
+use Rattle.records.specs.Layout.{byte-at}
+use Rattle.records.specs.Kinds.{kind-of, body-length}
+use Rattle.records.specs.Read.{configuration, read}
 
 abbrev pub configured : CopterGuidance → Craft
-configured guidance = record { guidance = Configured guidance }
+configured g = record { guidance = Configured g }
 
--- ---- the checks, in document 01's order
-
--- The lowest of the fields from n on, d of them, that breaks its rule; n + d where none does.
-unfoldable pub lowest : List ℕ → ℕ → ℕ → ℕ
-lowest body n zero = n
-lowest body n (suc d) = cond (rule n (float-at body (4 * (n - 1)))) (lowest body (suc n) d) n
-
--- from 1/4,096 to 1; a NaN is not
-unfoldable pub time-step-ok : Float → Bool
-time-step-ok dt = le (f32 0x3980_0000) dt && le dt one
-
--- not finite, or at most 1,024 in size
-unfoldable pub heading-ok : Float → Bool
-heading-ok heading = not (finite heading) || le (abs heading) (f32 0x4480_0000)
-
--- both marks of a waypoint are 0 or 1
-unfoldable pub marks-ok : List ℕ → Bool
-marks-ok body = leb (byte-at body 72) 1 && leb (byte-at body 89) 1
-
--- ---- each kind of record, over its body
-
--- The craft after a record, and its answer.
-pub record Verdict : Type 0 where
-  pub craft : Craft
-  pub answer : Answer
-
-abbrev pub refuse : Craft → Refusal → Verdict
-refuse craft refusal = record { craft = craft; answer = Refused refusal }
+-- ---- performing: an input on a configured craft, which never refuses and leaves the configuration
 
 -- the setpoint with its flags
 unfoldable pub setpoint-answer : Setpoint → Flags → Answer
-setpoint-answer (setpoints.Attitude s) flags = Attitude s flags
-setpoint-answer (setpoints.BodyRate s) flags = BodyRate s flags
+setpoint-answer (setpoints.Attitude s) flags = answers.Attitude s flags
+setpoint-answer (setpoints.BodyRate s) flags = answers.BodyRate s flags
 
-unfoldable pub guided : Guided → Verdict
-guided g = record { craft = configured (g .craft); answer = setpoint-answer (g .setpoint) (g .flags) }
+unfoldable pub wind-answer : Filter → Answer
+wind-answer filters.Nothing = answers.NoWind
+wind-answer (filters.Estimate estimate) = answers.Wind estimate
 
-unfoldable pub configure : Craft → List ℕ → Verdict
-configure craft body =
-    let field = lowest body 1 50 in
-    cond (leb field 50) (refuse craft (Field field)) (record { craft = configured (new-craft (configuration body)); answer = Done })
+unfoldable pub guided : Guided → Performed
+guided g = record { memory = g .craft .memory; answer = setpoint-answer (g .setpoint) (g .flags) }
 
-unfoldable pub prime-record : Craft → Guidance → List ℕ → Verdict
-prime-record craft Unconfigured body = refuse craft NotConfigured
-prime-record craft (Configured g) body =
-    let state = state-at body 0 in
-    cond (heading-ok (state .«heading_rad»)) (record { craft = configured (prime g state); answer = Done }) (refuse craft Heading)
+-- the memory after it, and the answer
+unfoldable pub perform : CopterGuidance → Input → Performed
+perform g (inputs.Prime state) = record { memory = prime g state .memory; answer = answers.Done }
+perform g (inputs.Call dt state command) = guided (guide-call g dt state command)
+perform g inputs.Wind = record { memory = g .memory; answer = wind-answer (wind-reading g) }
 
--- The checks of a call over its body, whose first float is T and whose state comes after it: the craft, its marks, its time step, its heading.
-unfoldable pub checked : Guidance → List ℕ → Bool → Ready
-checked Unconfigured body marks = readiness.Refused NotConfigured
-checked (Configured g) body marks =
-    let dt = float-at body 0 in
-    let state = state-at body 4 in
-    cond (not marks) (readiness.Refused Mark)
-    (cond (not (time-step-ok dt)) (readiness.Refused TimeStep)
-    (cond (heading-ok (state .«heading_rad»)) (readiness.Call g dt state) (readiness.Refused Heading)))
+-- ---- what a record comes to
 
--- an accepted call's setpoint, or the refusal
-unfoldable pub called : Ready → Craft → Command → Verdict
-called (readiness.Call g dt state) craft command = guided (guide-call g dt state command)
-called (readiness.Refused refusal) craft command = refuse craft refusal
+pub data Verdict : Type 0 where
+  Accepted : CopterGuidance → Answer → Verdict
+  Refused : Refusal → Verdict
 
-abbrev pub call-record : Craft → List ℕ → Bool → Command → Verdict
-call-record craft body marks command = called (checked (craft .guidance) body marks) craft command
+abbrev pub performed : CopterGuidance → Performed → Verdict
+performed g p = Accepted (record { config = g .config; memory = p .memory }) (p .answer)
 
-unfoldable pub rate-record : Craft → Guidance → Verdict
-rate-record craft Unconfigured = refuse craft NotConfigured
-rate-record craft (Configured g) = refuse craft Rate
+-- an accepted configure starts a fresh craft
+unfoldable pub configure : Configuration → Verdict
+configure (Of config) = Accepted (new-craft config) answers.Done
+configure (Broken field) = Refused (refusals.Field field)
 
-abbrev pub wind-answer : Filter → Answer
-wind-answer filters.Nothing = NoWind
-wind-answer (filters.Estimate estimate) = Wind estimate
+-- any other kind needs a craft
+unfoldable pub told : Guidance → Read → Verdict
+told Unconfigured reads = Refused refusals.NotConfigured
+told (Configured g) (reading.Input input) = performed g (perform g input)
+told (Configured g) (reading.Refused refusal) = Refused refusal
 
-unfoldable pub wind-record : Craft → Guidance → Verdict
-wind-record craft Unconfigured = refuse craft NotConfigured
-wind-record craft (Configured g) = record { craft = craft; answer = wind-answer (wind-reading g) }
+-- a record of a kind, over its whole body
+unfoldable pub serve : Kind → Guidance → List ℕ → Verdict
+serve kinds.Configure guidance body = configure (configuration body)
+serve (kinds.InFlight kind) guidance body = told guidance (read kind body)
+serve kinds.Unknown guidance body = Refused refusals.Kind
 
-unfoldable pub of-kind : ℕ → Craft → List ℕ → Verdict
-of-kind kind craft body =
-    cond (eqb kind 1) (configure craft body)
-    (cond (eqb kind 2) (prime-record craft (craft .guidance) body)
-    (cond (eqb kind 3) (call-record craft body true (commands.Attitude (attitude-command body)))
-    (cond (eqb kind 4) (rate-record craft (craft .guidance))
-    (cond (eqb kind 5) (call-record craft body (marks-ok body) (commands.Waypoint (waypoint-command body)))
-    (cond (eqb kind 6) (call-record craft body true (commands.AbsoluteAttitude (absolute-attitude-command body)))
-    (cond (eqb kind 7) (call-record craft body true (commands.Land (land-command body)))
-    (cond (eqb kind 8) (call-record craft body true (commands.AbsoluteRate (absolute-rate-command body))) (wind-record craft (craft .guidance)))))))))
+-- The verdict, and the bytes taken.
+pub record Judged : Type 0 where
+  pub verdict : Verdict
+  pub taken : ℕ
 
--- ---- a record
+-- a refusal that takes no byte
+abbrev pub untaken : Refusal → Judged
+untaken refusal = record { verdict = Refused refusal; taken = 0 }
 
--- how many bytes follow the kind
-unfoldable pub body-length : ℕ → ℕ
-body-length kind =
-    cond (eqb kind 1) 200
-    (cond (eqb kind 2) 60
-    (cond (eqb kind 5) 94
-    (cond (eqb kind 7) 72
-    (cond (eqb kind 4) 0
-    (cond (eqb kind 9) 0 80)))))
+-- a body cut short is 6
+abbrev pub with-body : Kind → Guidance → List ℕ → Judged
+with-body kind guidance rest =
+    let needed = body-length kind in
+    cond (ltb (length rest) needed) (untaken refusals.Short) (record { verdict = serve kind guidance (take needed rest); taken = suc needed })
 
--- What a record operation reports: the craft, the answer, the bytes taken and written, and the whole buffer.
+-- an unknown kind is 5
+unfoldable pub with-kind : Kind → Guidance → List ℕ → Judged
+with-kind kinds.Configure guidance rest = with-body kinds.Configure guidance rest
+with-kind (kinds.InFlight kind) guidance rest = with-body (kinds.InFlight kind) guidance rest
+with-kind kinds.Unknown guidance rest = untaken refusals.Kind
+
+-- a missing kind byte is 6
+unfoldable pub judged : Guidance → List ℕ → Judged
+judged guidance bytes = cond (eqb (length bytes) 0) (untaken refusals.Short) (with-kind (kind-of (byte-at bytes 0)) guidance (drop 1 bytes))
+
+-- ---- the record operation
+
+-- What it reports: the craft, the answer, the bytes taken and written, and the whole buffer.
 pub record Outcome : Type 0 where
   pub craft : Craft
   pub answer : Answer
@@ -145,20 +118,39 @@ pub record Outcome : Type 0 where
   pub written : ℕ
   pub buffer : List ℕ
 
+-- the craft after a record; a refusal leaves it
+unfoldable pub craft-after : Craft → Verdict → Craft
+craft-after craft (Accepted g answer) = configured g
+craft-after craft (Refused refusal) = craft
+
+unfoldable pub answer-of : Verdict → Answer
+answer-of (Accepted g answer) = answer
+answer-of (Refused refusal) = answers.Refused refusal
+
 -- an answer written over the buffer's first bytes
-unfoldable pub answered : Verdict → ℕ → List ℕ → Outcome
-answered verdict taken buffer =
-    let bytes = answer-bytes (verdict .answer) in
+unfoldable pub answered : Craft → Judged → List ℕ → Outcome
+answered craft j buffer =
+    let answer = answer-of (j .verdict) in
+    let bytes = answer-bytes answer in
     record {
-      craft = verdict .craft;
-      answer = verdict .answer;
-      taken = taken;
+      craft = craft-after craft (j .verdict);
+      answer = answer;
+      taken = j .taken;
       written = length bytes;
       buffer = bytes ++ drop (length bytes) buffer;
     }
 
--- what the record operation gives, with the buffer that it leaves
-unfoldable pub reported : Handled → List ℕ → Outcome
+-- what an answer may need
+abbrev pub answer-room : ℕ
+answer-room = 25
+
+-- a buffer under 25 bytes is 9
+unfoldable pub step : Craft → List ℕ → List ℕ → Outcome
+step craft bytes buffer =
+    answered craft (cond (ltb (length buffer) answer-room) (untaken refusals.NoRoom) (judged (craft .guidance) bytes)) buffer
+
+-- what the port's operation gives, with the buffer that it leaves
+abbrev pub reported : Handled → List ℕ → Outcome
 reported handled buffer =
     record {
       craft = handled .craft;
@@ -167,18 +159,3 @@ reported handled buffer =
       written = handled .written;
       buffer = buffer;
     }
-
--- a record with a kind byte
-unfoldable pub with-kind : ℕ → Craft → List ℕ → List ℕ → Outcome
-with-kind kind craft rest buffer =
-    let needed = body-length kind in
-    cond (ltb kind 1) (answered (refuse craft Kind) 0 buffer)
-    (cond (ltb 9 kind) (answered (refuse craft Kind) 0 buffer)
-    (cond (ltb (length rest) needed) (answered (refuse craft Short) 0 buffer)
-    (answered (of-kind kind craft (take needed rest)) (suc needed) buffer)))
-
--- A buffer under 25 bytes is 9, a missing kind byte 6, a kind that is not 1 to 9 is 5, a body cut short 6; these take no byte.
-unfoldable pub step : Craft → List ℕ → List ℕ → Outcome
-step craft bytes buffer =
-    cond (ltb (length buffer) 25) (answered (refuse craft NoRoom) 0 buffer)
-    (cond (eqb (length bytes) 0) (answered (refuse craft Short) 0 buffer) (with-kind (byte-at bytes 0) craft (drop 1 bytes) buffer))

@@ -3,10 +3,9 @@
 use Prim.Native.Nat.{ℕ, _≤_}
 use mathlib.Core.Path.{_≡_}
 use mathlib.Core.Bool.{true, false}
-use mathlib.Core.List.{List, [], _∷_, _++_}
+use mathlib.Core.List.{List, [], _∷_, _++_, map}
 use lib.ListN.{length, take, replicate}
 use lib.Ieee.{Float, binary32, nan, inf, neg, toBits}
-use Rattle.floats.specs.Bits.{le-bytes}
 use Rattle.floats.specs.Ops.{f32}
 use Rattle.floats.specs.Sqrt.{sqrt}
 use Rattle.math.specs.Math.{zero, half, one, two, wrap-angle, tilt-boost, shaped-closing-speed, guard-sink, cap-magnitude}
@@ -21,13 +20,17 @@ use Rattle.altitude.specs.Altitude.{control}
 use Rattle.altitude.specs.declared.AltitudeControllerConfig.{AltitudeControllerConfig}
 use Rattle.altitude.specs.declared.AltitudeEstimate.{AltitudeEstimate}
 use Rattle.altitude.specs.declared.AltitudeController.{AltitudeController}
+use Rattle.copter.specs.Config.{defaults}
 use Rattle.copter.specs.Descent.{lowered}
 use Rattle.copter.specs.declared.memory.CopterGuidance.{CopterGuidance}
 use Rattle.records.specs.declared.answer.Refusal.the-variants.{TimeStep}
 use Rattle.records.specs.Craft.{unconfigured}
-use Rattle.records.specs.Read.{float-at, state-at}
-use Rattle.records.specs.Step.{configured, time-step-ok, heading-ok, refuse, answered}
-use Rattle.records.specs.Feed.{Entry, Reply, outcome, replies, kind-of, body-of, Accepted}
+use Rattle.records.specs.Layout.{float-at, Value, number, laid}
+use Rattle.records.specs.Kinds.{state-start}
+use Rattle.records.specs.Read.{state-at, time-step-ok, heading-ok}
+use Rattle.records.specs.Step.{Refused, configured, answer-room, answered}
+use Rattle.records.specs.Flight.{flight-answers}
+use Rattle.records.specs.Feed.{Entry, Reply, outcome, replies, kind-byte, body-of, Accepted}
 
 -- ---- how the rows are written
 
@@ -54,57 +57,52 @@ third = paced (second .divider) (f32 0x3C00_0000)
 
 -- W9: a whole record of kind 6 with the time step t, and room for its answer
 pub record CallWith (t : Float) (entry : Entry) : Type 0 where
-  pub kind-six : kind-of entry ≡ 6
+  pub kind-six : kind-byte entry ≡ 6
   pub whole : 81 ≤ length (entry .bytes)
-  pub room : 25 ≤ length (entry .buffer)
+  pub room : answer-room ≤ length (entry .buffer)
   pub time-step : float-at (body-of entry) 0 ≡ t
 
 -- every configured craft accepts it, with a heading that is not finite or at most 1,024 in size
 abbrev pub CallAccepted : Float → Type 0
-CallAccepted t = (g : CopterGuidance) (entry : Entry) → CallWith t entry → heading-ok (state-at (body-of entry) 4 .«heading_rad») ≡ true
+CallAccepted t = (g : CopterGuidance) (entry : Entry) → CallWith t entry → heading-ok (state-at (body-of entry) state-start .«heading_rad») ≡ true
     → Accepted (configured g) entry
 
 -- every configured craft refuses it with number 2, takes its 81 bytes and is left as it was
 abbrev pub CallRefused : Float → Type 0
 CallRefused t = (g : CopterGuidance) (entry : Entry) → CallWith t entry
-    → outcome (configured g) entry ≡ answered (refuse (configured g) TimeStep) 81 (entry .buffer)
+    → outcome (configured g) entry ≡ answered (configured g) (record { verdict = Refused TimeStep; taken = 81 }) (entry .buffer)
 
 -- ---- the flight that the program runs
 
--- bit patterns as bytes
-unfoldable pub words : List ℕ → List ℕ
-words [] = []
-words (bits ∷ rest) = le-bytes bits ++ words rest
-
--- a record of a kind and a body, with an answer buffer of 25 zeros
-abbrev pub sent : ℕ → List ℕ → Entry
-sent kind body = record { bytes = kind ∷ body; buffer = replicate 25 0 }
+-- a record of a kind and of values, with an answer buffer of 25 zeros
+abbrev pub sent : ℕ → List Value → Entry
+sent kind values = record { bytes = kind ∷ laid values; buffer = replicate answer-room 0 }
 
 -- the Rust's defaults, but 0 for the wind fields 42 to 50
-unfoldable pub defaults : List ℕ
-defaults =
-    0x3FC0_0000 ∷ 0x3E4C_CCCD ∷ 0x4000_0000 ∷ 0x40A0_0000 ∷ 0x3F00_0000 ∷ 0x3F80_0000  -- 1 to 6
-    ∷ 0x3F00_0000 ∷ 0x3FA1_47AE ∷ 0x3ECC_CCCD ∷ 0 ∷ 0x4148_0000 ∷ 0 ∷ 0 ∷ 0x3F33_3333  -- 7 to 14
-    ∷ 0x3CA3_D70A ∷ 0x3F49_0FDB ∷ 0x3F49_0FDB ∷ 0x3F80_0000 ∷ 0x3D4C_CCCD ∷ 0x3EF1_4639  -- 15 to 20
-    ∷ 0x4040_0000 ∷ 0x3F80_0000 ∷ 0x4020_0000 ∷ 0x3F80_0000 ∷ 0x3F33_3333  -- 21 to 25
-    ∷ 0x3F86_0A92 ∷ 0x3F86_0A92 ∷ 0x4040_0000 ∷ 0x3F06_0A92 ∷ 0x3DCC_CCCD ∷ 0x3F80_0000  -- 26 to 31
-    ∷ 0 ∷ 0x3FB2_B8C2 ∷ 0x3E86_0A92 ∷ 0x3E32_B8C2 ∷ 0x3F80_0000 ∷ 0x3E99_999A  -- 32 to 37
-    ∷ 0 ∷ 0 ∷ 0 ∷ 0x3F80_0000  -- 38 to 41
-    ∷ replicate 9 0
+unfoldable pub worked-fields : List Float
+worked-fields = take 41 defaults ++ replicate 9 zero
 
 unfoldable pub configuring : Entry
-configuring = sent 1 (words defaults)
+configuring = sent 1 (map number worked-fields)
 
--- with a state of 15 floats, all 0
+-- a state of 15 floats, all 0
+abbrev pub still : List Value
+still = replicate 15 (number zero)
+
 unfoldable pub priming : Entry
-priming = sent 2 (words (replicate 15 0))
+priming = sent 2 still
 
 -- T 0.5, the state, and the command with a thrust of 0.5
 unfoldable pub flying : ℕ → Entry
-flying kind = sent kind (words ((0x3F00_0000 ∷ []) ++ replicate 15 0 ++ (0 ∷ 0 ∷ 0 ∷ 0x3F00_0000 ∷ [])))
+flying kind = sent kind ((number half ∷ []) ++ still ++ (number zero ∷ number zero ∷ number zero ∷ number half ∷ []))
 
 unfoldable pub flight : List Entry
 flight = configuring ∷ priming ∷ flying 6 ∷ sent 4 [] ∷ []
+
+-- the flight as a file
+unfoldable pub file : List Entry → List ℕ
+file [] = []
+file (entry ∷ entries) = entry .bytes ++ file entries
 
 -- the bytes written, answer after answer
 unfoldable pub output : List Reply → List ℕ
@@ -173,5 +171,6 @@ pub record WorkedFlights : Type 0 where
   }
   -- W10 root of 2 has bits 3FB504F3 (hexadecimal).
   pub w10 : toBits binary32 (sqrt binary32 two) ≡ 0x3FB5_04F3
-  -- Run by the program, output whole.
+  -- Run by the program, output whole: record by record, and what is written for the file.
   pub run : output (replies unconfigured flight) ≡ worked-answers
+  pub run-file : flight-answers unconfigured (file flight) ≡ worked-answers

@@ -2,7 +2,8 @@
 pub mod answer;
 pub mod craft;
 pub mod flight;
+pub mod kinds;
 mod read;
-pub mod renew;
 pub mod step;
+mod turn;
 mod write;

@@ -1,287 +1,331 @@
-// Reads the numbers of a record's body. A body here is the part of the record after its kind, of the
-// length that the kind fixes.
-use altitude::AltitudeControllerConfig;
-use controllers::Gains;
+// Decodes a record's body: what it says, or why it is refused, from the bytes alone. A reader gets the part
+// of the body that is its own.
+use crate::answer::Refusal;
+use crate::kinds::COMMAND_START;
+use crate::kinds::Call;
+use crate::kinds::InFlight;
+use crate::kinds::NUMBER;
 use copter::commands::AbsoluteAttitudeCommand;
 use copter::commands::AbsoluteRateCommand;
 use copter::commands::AttitudeCommand;
+use copter::commands::Command;
 use copter::commands::LandCommand;
 use copter::commands::TargetVelocity;
 use copter::commands::WaypointCommand;
 use copter::config::CopterGuidanceConfig;
-use copter::config::GuidanceConfig;
-use copter::config::ThrustLimits;
+use copter::config::FIELDS;
+use copter::config::LAST_FIELD;
 use heading::Angle;
-use heading::HeadingConfig;
-use lateral::LateralControllerConfig;
 use math::vectors::Quaternion;
 use math::vectors::Vec2;
 use math::vectors::Vec3;
-use wind::drag::WindConfig;
 use wind::state::VehicleState;
 ghost use mathlib.Core.Path.{_≡_};
 ghost use Prim.Native.Nat.{_+_, _≤_};
 ghost use lib.ListN.{length};
-ghost use Rattle.records.specs.Read.{word-at, float-at, vec2-at, vec3-at, state-at, gains-at, altitude-config, lateral-config, heading-config, guidance-config, thrust-limits, wind-config, configuration, attitude-command, waypoint-velocity, waypoint-heading, waypoint-command, absolute-attitude-command, land-command, absolute-rate-command};
+ghost use Rattle.copter.specs.Config.{field-count};
+ghost use Rattle.records.specs.Layout.{word-at, float-at, numbers, size, floats-from};
+ghost use Rattle.records.specs.declared.kinds.Call.the-variants as calls;
+ghost use Rattle.records.specs.declared.kinds.InFlight.the-variants as flights;
+ghost use Rattle.records.specs.Kinds.{command-layout, in-flight-layout, state-layout};
+ghost use Rattle.records.specs.Inner.{vec2-at, vec3-at};
+ghost use Rattle.records.specs.Read.{state, attitude-command, waypoint-command, marks-ok};
+ghost use Rattle.records.specs.Read.{absolute-attitude-command, land-command, absolute-rate-command, command};
+ghost use Rattle.records.specs.Read.{time-step-ok, heading-ok, configuration, prime-input, call-input, read};
+
+// What a configured craft is told.
+pub enum Input {
+    Prime(VehicleState),
+    // A time step in seconds, a state and a command.
+    Call(f32, VehicleState, Command),
+    Wind,
+}
+
+pub enum Read {
+    Input(Input),
+    Refused(Refusal),
+}
+
+// A configuration, or the lowest of its fields that breaks its rule.
+pub enum Configuration {
+    Of(CopterGuidanceConfig),
+    Broken(u8),
+}
+
+// A call's command, or none where a mark is neither 0 nor 1.
+pub enum CommandRead {
+    Command(Command),
+    BadMark,
+}
+
+// The largest heading that a record may have, in radians, and the shortest and the longest time step, in
+// seconds.
+const MAX_HEADING_RAD: f32 = 1024.0;
+
+const SHORTEST_STEP_S: f32 = 0.00024414062;
+
+const LONGEST_STEP_S: f32 = 1.0;
 
 // The word at an index. It has a function of its own, in which the compiler reads the four bytes at
 // once.
-fn read_word(body: &[u8], at: usize) -> u32
-    requires { ⌜ at + 4 ≤ length (now body) ⌝ }
-    ensures { λ r. ⌜ r ≡ word-at (now (body .entry)) at ⌝ }
+fn read_word(part: &[u8], at: usize) -> u32
+    requires { ⌜ at + 4 ≤ length (now part) ⌝ }
+    ensures { λ r. ⌜ r ≡ word-at (now (part .entry)) at ⌝ }
 {
-    floats::bits::le_word(body[at], body[at + 1], body[at + 2], body[at + 3])
+    floats::bits::le_word(part[at], part[at + 1], part[at + 2], part[at + 3])
 }
 
 // The float at an index.
-pub fn read_f32(body: &[u8], at: usize) -> f32
-    requires { ⌜ at + 4 ≤ length (now body) ⌝ }
-    ensures { λ r. ⌜ r ≡ float-at (now (body .entry)) at ⌝ }
+fn read_f32(part: &[u8], at: usize) -> f32
+    requires { ⌜ at + 4 ≤ length (now part) ⌝ }
+    ensures { λ r. ⌜ r ≡ float-at (now (part .entry)) at ⌝ }
 {
-    floats::bits::from_bits(read_word(body, at))
+    floats::bits::from_bits(read_word(part, at))
 }
 
-fn read_vec2(body: &[u8], at: usize) -> Vec2
-    requires { ⌜ at + 8 ≤ length (now body) ⌝ }
-    ensures { λ r. ⌜ r ≡ vec2-at (now (body .entry)) at ⌝ }
+fn read_vec2(part: &[u8], at: usize) -> Vec2
+    requires { ⌜ at + 8 ≤ length (now part) ⌝ }
+    ensures { λ r. ⌜ r ≡ vec2-at (now (part .entry)) at ⌝ }
 {
     Vec2 {
-        x: read_f32(body, at),
-        y: read_f32(body, at + 4),
+        x: read_f32(part, at),
+        y: read_f32(part, at + 4),
     }
 }
 
-fn read_vec3(body: &[u8], at: usize) -> Vec3
-    requires { ⌜ at + 12 ≤ length (now body) ⌝ }
-    ensures { λ r. ⌜ r ≡ vec3-at (now (body .entry)) at ⌝ }
+fn read_vec3(part: &[u8], at: usize) -> Vec3
+    requires { ⌜ at + 12 ≤ length (now part) ⌝ }
+    ensures { λ r. ⌜ r ≡ vec3-at (now (part .entry)) at ⌝ }
 {
     Vec3 {
-        x: read_f32(body, at),
-        y: read_f32(body, at + 4),
-        z: read_f32(body, at + 8),
+        x: read_f32(part, at),
+        y: read_f32(part, at + 4),
+        z: read_f32(part, at + 8),
     }
 }
 
-// A state, 60 bytes.
-pub fn read_state(body: &[u8], at: usize) -> VehicleState
-    requires { ⌜ at + 60 ≤ length (now body) ⌝ }
-    ensures { λ r. ⌜ r ≡ state-at (now (body .entry)) at ⌝ }
+fn read_state(part: &[u8]) -> VehicleState
+    requires { ⌜ size state-layout ≤ length (now part) ⌝ }
+    ensures { λ r. ⌜ r ≡ state (now (part .entry)) ⌝ }
 {
     VehicleState {
-        position_m: read_vec3(body, at),
-        velocity_mps: read_vec3(body, at + 12),
-        acceleration_mps2: read_vec3(body, at + 24),
+        position_m: read_vec3(part, 0),
+        velocity_mps: read_vec3(part, 12),
+        acceleration_mps2: read_vec3(part, 24),
         attitude: Quaternion {
-            w: read_f32(body, at + 36),
-            i: read_f32(body, at + 40),
-            j: read_f32(body, at + 44),
-            k: read_f32(body, at + 48),
+            w: read_f32(part, 36),
+            i: read_f32(part, 40),
+            j: read_f32(part, 44),
+            k: read_f32(part, 48),
         },
-        angular_velocity_z_radps: read_f32(body, at + 52),
-        heading_rad: read_f32(body, at + 56),
+        angular_velocity_z_radps: read_f32(part, 52),
+        heading_rad: read_f32(part, 56),
     }
 }
 
-fn read_gains(body: &[u8], at: usize) -> Gains
-    requires { ⌜ at + 12 ≤ length (now body) ⌝ }
-    ensures { λ r. ⌜ r ≡ gains-at (now (body .entry)) at ⌝ }
-{
-    Gains {
-        p: read_f32(body, at),
-        i: read_f32(body, at + 4),
-        d: read_f32(body, at + 8),
-    }
-}
-
-// Fields 1 to 6.
-fn read_altitude(body: &[u8]) -> AltitudeControllerConfig
-    requires { ⌜ 200 ≤ length (now body) ⌝ }
-    ensures { λ r. ⌜ r ≡ altitude-config (now (body .entry)) ⌝ }
-{
-    AltitudeControllerConfig {
-        gains: read_gains(body, 0),
-        max_integral: read_f32(body, 12),
-        hover_thrust: read_f32(body, 16),
-        integration_band_m: read_f32(body, 20),
-    }
-}
-
-// Fields 7 to 14.
-fn read_lateral(body: &[u8]) -> LateralControllerConfig
-    requires { ⌜ 200 ≤ length (now body) ⌝ }
-    ensures { λ r. ⌜ r ≡ lateral-config (now (body .entry)) ⌝ }
-{
-    LateralControllerConfig {
-        position_p: read_f32(body, 24),
-        velocity: read_gains(body, 28),
-        max_integral: read_f32(body, 40),
-        max_accel_mps2: read_f32(body, 44),
-        brake_mps2: read_f32(body, 48),
-        braking_share: read_f32(body, 52),
-    }
-}
-
-// Fields 26 to 35.
-fn read_heading(body: &[u8]) -> HeadingConfig
-    requires { ⌜ 200 ≤ length (now body) ⌝ }
-    ensures { λ r. ⌜ r ≡ heading-config (now (body .entry)) ⌝ }
-{
-    HeadingConfig {
-        waypoint_yaw_radps: read_f32(body, 100),
-        heading_rate_radps: read_f32(body, 104),
-        waypoint_yaw_min_leg_m: read_f32(body, 108),
-        heading_yield_rad: read_f32(body, 112),
-        heading_yield_rate_radps: read_f32(body, 116),
-        heading_yield_s: read_f32(body, 120),
-        wind_heading_min_mps: read_f32(body, 124),
-        wind_heading_from_wind_rad: read_f32(body, 128),
-        wind_heading_max_sd_rad: read_f32(body, 132),
-        wind_heading_deadband_rad: read_f32(body, 136),
-    }
-}
-
-// Fields 15 to 37.
-fn read_guidance(body: &[u8]) -> GuidanceConfig
-    requires { ⌜ 200 ≤ length (now body) ⌝ }
-    ensures { λ r. ⌜ r ≡ guidance-config (now (body .entry)) ⌝ }
-{
-    GuidanceConfig {
-        navigation_period_s: read_f32(body, 56),
-        max_stick_angles_rad: read_vec2(body, 60),
-        stick_yaw_rate_radps: read_f32(body, 68),
-        idle_throttle: read_f32(body, 72),
-        max_tilt_rad: read_f32(body, 76),
-        max_descent_mps: read_f32(body, 80),
-        descent_accel_mps2: read_f32(body, 84),
-        climb_decel_mps2: read_f32(body, 88),
-        altitude_leash_m: read_f32(body, 92),
-        land_speed_mps: read_f32(body, 96),
-        heading: read_heading(body),
-        airborne_height_m: read_f32(body, 140),
-        feedforward_hold_band_mps: read_f32(body, 144),
-    }
-}
-
-// Fields 38 to 41.
-fn read_thrust(body: &[u8]) -> ThrustLimits
-    requires { ⌜ 200 ≤ length (now body) ⌝ }
-    ensures { λ r. ⌜ r ≡ thrust-limits (now (body .entry)) ⌝ }
-{
-    ThrustLimits {
-        min_thrust: read_f32(body, 148),
-        sink_limit_mps: read_f32(body, 152),
-        sink_gain: read_f32(body, 156),
-        max_boost_thrust: read_f32(body, 160),
-    }
-}
-
-// Fields 42 to 50.
-fn read_wind(body: &[u8]) -> WindConfig
-    requires { ⌜ 200 ≤ length (now body) ⌝ }
-    ensures { λ r. ⌜ r ≡ wind-config (now (body .entry)) ⌝ }
-{
-    WindConfig {
-        ballistic_kgpm2: read_vec2(body, 164),
-        momentum_per_s: read_vec2(body, 172),
-        force_noise_mps2: read_f32(body, 180),
-        process_noise_mps_per_rt_s: read_f32(body, 184),
-        initial_sd_mps: read_f32(body, 188),
-        gate_sigma: read_f32(body, 192),
-        max_axial_speed_mps: read_f32(body, 196),
-    }
-}
-
-// All 50 fields.
-pub fn read_configuration(body: &[u8]) -> CopterGuidanceConfig
-    requires { ⌜ 200 ≤ length (now body) ⌝ }
-    ensures { λ r. ⌜ r ≡ configuration (now (body .entry)) ⌝ }
-{
-    CopterGuidanceConfig {
-        altitude: read_altitude(body),
-        lateral: read_lateral(body),
-        guidance: read_guidance(body),
-        thrust: read_thrust(body),
-        wind: read_wind(body),
-    }
-}
-
-// The commands stand after T and the state, 64 bytes.
-pub fn read_attitude(body: &[u8]) -> AttitudeCommand
-    requires { ⌜ 80 ≤ length (now body) ⌝ }
-    ensures { λ r. ⌜ r ≡ attitude-command (now (body .entry)) ⌝ }
+fn read_attitude(part: &[u8]) -> AttitudeCommand
+    requires { ⌜ size (command-layout calls.Attitude) ≤ length (now part) ⌝ }
+    ensures { λ r. ⌜ r ≡ attitude-command (now (part .entry)) ⌝ }
 {
     AttitudeCommand {
-        throttle: read_f32(body, 64),
-        roll: read_f32(body, 68),
-        pitch: read_f32(body, 72),
-        yaw: read_f32(body, 76),
+        throttle: read_f32(part, 0),
+        roll: read_f32(part, 4),
+        pitch: read_f32(part, 8),
+        yaw: read_f32(part, 12),
     }
 }
 
 // The target's velocity, if its mark is 1; the floats after a 0 are not read.
-fn read_waypoint_velocity(body: &[u8]) -> TargetVelocity
-    requires { ⌜ 94 ≤ length (now body) ⌝ }
-    ensures { λ r. ⌜ r ≡ waypoint-velocity (now (body .entry)) ⌝ }
+fn read_target_velocity(part: &[u8]) -> TargetVelocity
+    requires { ⌜ size (command-layout calls.Waypoint) ≤ length (now part) ⌝ }
+    ensures { λ r. ⌜ r ≡ waypoint-command (now (part .entry)) .«velocity_mps» ⌝ }
 {
-    if body[72] == 1 {
-        return TargetVelocity::Mps(read_vec2(body, 73));
+    if part[8] == 1 {
+        return TargetVelocity::Mps(read_vec2(part, 9));
     }
     TargetVelocity::Nothing
 }
 
 // The commanded heading, if its mark is 1.
-fn read_waypoint_heading(body: &[u8]) -> Angle
-    requires { ⌜ 94 ≤ length (now body) ⌝ }
-    ensures { λ r. ⌜ r ≡ waypoint-heading (now (body .entry)) ⌝ }
+fn read_commanded_heading(part: &[u8]) -> Angle
+    requires { ⌜ size (command-layout calls.Waypoint) ≤ length (now part) ⌝ }
+    ensures { λ r. ⌜ r ≡ waypoint-command (now (part .entry)) .«heading_rad» ⌝ }
 {
-    if body[89] == 1 {
-        return Angle::Rad(read_f32(body, 90));
+    if part[25] == 1 {
+        return Angle::Rad(read_f32(part, 26));
     }
     Angle::Nothing
 }
 
-pub fn read_waypoint(body: &[u8]) -> WaypointCommand
-    requires { ⌜ 94 ≤ length (now body) ⌝ }
-    ensures { λ r. ⌜ r ≡ waypoint-command (now (body .entry)) ⌝ }
+fn read_waypoint(part: &[u8]) -> WaypointCommand
+    requires { ⌜ size (command-layout calls.Waypoint) ≤ length (now part) ⌝ }
+    ensures { λ r. ⌜ r ≡ waypoint-command (now (part .entry)) ⌝ }
 {
     WaypointCommand {
-        position_m: read_vec2(body, 64),
-        velocity_mps: read_waypoint_velocity(body),
-        altitude_m: read_f32(body, 81),
-        cruise_speed_mps: read_f32(body, 85),
-        heading_rad: read_waypoint_heading(body),
+        position_m: read_vec2(part, 0),
+        velocity_mps: read_target_velocity(part),
+        altitude_m: read_f32(part, 17),
+        cruise_speed_mps: read_f32(part, 21),
+        heading_rad: read_commanded_heading(part),
     }
 }
 
-pub fn read_absolute_attitude(body: &[u8]) -> AbsoluteAttitudeCommand
-    requires { ⌜ 80 ≤ length (now body) ⌝ }
-    ensures { λ r. ⌜ r ≡ absolute-attitude-command (now (body .entry)) ⌝ }
+// Both marks of a waypoint are 0 or 1.
+fn marks_ok(part: &[u8]) -> bool
+    requires { ⌜ size (command-layout calls.Waypoint) ≤ length (now part) ⌝ }
+    ensures { λ r. ⌜ r ≡ marks-ok (now (part .entry)) ⌝ }
+{
+    if part[8] <= 1 {
+        return part[25] <= 1;
+    }
+    false
+}
+
+fn read_absolute_attitude(part: &[u8]) -> AbsoluteAttitudeCommand
+    requires { ⌜ size (command-layout calls.AbsoluteAttitude) ≤ length (now part) ⌝ }
+    ensures { λ r. ⌜ r ≡ absolute-attitude-command (now (part .entry)) ⌝ }
 {
     AbsoluteAttitudeCommand {
-        roll_rad: read_f32(body, 64),
-        pitch_rad: read_f32(body, 68),
-        heading_rad: read_f32(body, 72),
-        thrust: read_f32(body, 76),
+        roll_rad: read_f32(part, 0),
+        pitch_rad: read_f32(part, 4),
+        heading_rad: read_f32(part, 8),
+        thrust: read_f32(part, 12),
     }
 }
 
-pub fn read_land(body: &[u8]) -> LandCommand
-    requires { ⌜ 72 ≤ length (now body) ⌝ }
-    ensures { λ r. ⌜ r ≡ land-command (now (body .entry)) ⌝ }
+fn read_land(part: &[u8]) -> LandCommand
+    requires { ⌜ size (command-layout calls.Land) ≤ length (now part) ⌝ }
+    ensures { λ r. ⌜ r ≡ land-command (now (part .entry)) ⌝ }
 {
     LandCommand {
-        position_m: read_vec2(body, 64),
+        position_m: read_vec2(part, 0),
     }
 }
 
-pub fn read_absolute_rate(body: &[u8]) -> AbsoluteRateCommand
-    requires { ⌜ 80 ≤ length (now body) ⌝ }
-    ensures { λ r. ⌜ r ≡ absolute-rate-command (now (body .entry)) ⌝ }
+fn read_absolute_rate(part: &[u8]) -> AbsoluteRateCommand
+    requires { ⌜ size (command-layout calls.AbsoluteRate) ≤ length (now part) ⌝ }
+    ensures { λ r. ⌜ r ≡ absolute-rate-command (now (part .entry)) ⌝ }
 {
     AbsoluteRateCommand {
-        roll_radps: read_f32(body, 64),
-        pitch_radps: read_f32(body, 68),
-        yaw_radps: read_f32(body, 72),
-        thrust: read_f32(body, 76),
+        roll_radps: read_f32(part, 0),
+        pitch_radps: read_f32(part, 4),
+        yaw_radps: read_f32(part, 8),
+        thrust: read_f32(part, 12),
+    }
+}
+
+fn read_command(call: Call, part: &[u8]) -> CommandRead
+    requires { ⌜ size (command-layout call) ≤ length (now part) ⌝ }
+    ensures { λ r. ⌜ r ≡ command call (now (part .entry)) ⌝ }
+{
+    match call {
+        Call::Attitude => CommandRead::Command(Command::Attitude(read_attitude(part))),
+        Call::Waypoint => {
+            if marks_ok(part) {
+                return CommandRead::Command(Command::Waypoint(read_waypoint(part)));
+            }
+            CommandRead::BadMark
+        }
+        Call::AbsoluteAttitude =>
+            CommandRead::Command(Command::AbsoluteAttitude(read_absolute_attitude(part))),
+        Call::Land => CommandRead::Command(Command::Land(read_land(part))),
+        Call::AbsoluteRate => CommandRead::Command(Command::AbsoluteRate(read_absolute_rate(part))),
+    }
+}
+
+// From 1/4,096 to 1; a NaN is not.
+fn time_step_ok(dt: f32) -> bool
+    ensures { λ r. ⌜ r ≡ time-step-ok dt ⌝ }
+{
+    if SHORTEST_STEP_S <= dt {
+        return dt <= LONGEST_STEP_S;
+    }
+    false
+}
+
+// Not finite, or at most 1,024 in size.
+fn heading_ok(heading_rad: f32) -> bool
+    ensures { λ r. ⌜ r ≡ heading-ok «heading_rad» ⌝ }
+{
+    if floats::compare::is_finite(heading_rad) {
+        return floats::compare::abs(heading_rad) <= MAX_HEADING_RAD;
+    }
+    true
+}
+
+fn read_fields(body: &[u8]) -> [f32; FIELDS]
+    requires { ⌜ size (numbers field-count) ≤ length (now body) ⌝ }
+    ensures { λ r. ⌜ r ≡ floats-from 0 field-count (now (body .entry)) ⌝ }
+{
+    let mut fields = [0.0; FIELDS];
+    let mut i = 0;
+    while i < FIELDS {
+        fields[i] = read_f32(body, i * NUMBER);
+        i += 1;
+    }
+    fields
+}
+
+pub fn read_configuration(body: &[u8]) -> Configuration
+    requires { ⌜ size (numbers field-count) ≤ length (now body) ⌝ }
+    ensures { λ r. ⌜ r ≡ configuration (now (body .entry)) ⌝ }
+{
+    let fields = read_fields(body);
+    let field = copter::config::lowest_broken(&fields);
+    if field <= LAST_FIELD {
+        return Configuration::Broken(field);
+    }
+    Configuration::Of(CopterGuidanceConfig::of_fields(&fields))
+}
+
+fn read_prime(body: &[u8]) -> Read
+    requires { ⌜ size state-layout ≤ length (now body) ⌝ }
+    ensures { λ r. ⌜ r ≡ prime-input (state (now (body .entry))) ⌝ }
+{
+    let state = read_state(body);
+    if heading_ok(state.heading_rad) {
+        return Read::Input(Input::Prime(state));
+    }
+    Read::Refused(Refusal::Heading)
+}
+
+// The checks of a call, in document 01's order: its marks, its time step, its heading.
+fn call_input(command_read: CommandRead, dt: f32, state: VehicleState) -> Read
+    ensures { λ r. ⌜ r ≡ call-input «command_read» dt state ⌝ }
+{
+    let CommandRead::Command(command) = command_read else {
+        return Read::Refused(Refusal::Mark);
+    };
+    let in_time = time_step_ok(dt);
+    let headed = heading_ok(state.heading_rad);
+    if in_time {
+        if headed {
+            return Read::Input(Input::Call(dt, state, command));
+        }
+        return Read::Refused(Refusal::Heading);
+    }
+    Read::Refused(Refusal::TimeStep)
+}
+
+fn read_call(call: Call, body: &[u8]) -> Read
+    requires { ⌜ size (in-flight-layout (flights.Call call)) ≤ length (now body) ⌝ }
+    ensures { λ r. ⌜ r ≡ read (flights.Call call) (now (body .entry)) ⌝ }
+{
+    let command_read = read_command(call, &body[COMMAND_START..]);
+    let dt = read_f32(body, 0);
+    let state = read_state(&body[NUMBER..]);
+    call_input(command_read, dt, state)
+}
+
+// What the body of a kind says.
+pub fn decode(kind: InFlight, body: &[u8]) -> Read
+    requires { ⌜ size (in-flight-layout kind) ≤ length (now body) ⌝ }
+    ensures { λ r. ⌜ r ≡ read kind (now (body .entry)) ⌝ }
+{
+    match kind {
+        InFlight::Prime => read_prime(body),
+        InFlight::Call(call) => read_call(call, body),
+        InFlight::Rate => Read::Refused(Refusal::Rate),
+        InFlight::Wind => Read::Input(Input::Wind),
     }
 }

@@ -9,6 +9,7 @@ ghost use mathlib.Core.List.{_++_};
 ghost use Prim.Native.Nat.{_≤_};
 ghost use lib.ListN.{length, drop};
 ghost use Rattle.records.specs.Answer.{flag-bits, setpoint-bytes, number, field-of, refusal-bytes, answer-bytes};
+ghost use Rattle.records.specs.Step.{answer-room};
 ghost use Rattle.records.specs.declared.answer.Answer.the-variants as answers;
 
 // Bit 0 tilt saturated, bit 1 thrust saturated, bit 2 idle.
@@ -140,9 +141,18 @@ fn put(source: &[u8], out: &mut [u8]) -> usize
     bytes::copy(source, out)
 }
 
+// Writes the answer to an accepted configure or priming.
+pub fn write_done(out: &mut [u8]) -> usize
+    requires { ⌜ answer-room ≤ length (now out) ⌝ }
+    ensures { λ r. ⌜ r ≡ length (answer-bytes answers.Done) ⌝ }
+    ensures { λ r. ⌜ now (out .exit) ≡ answer-bytes answers.Done ++ drop r (now (out .entry)) ⌝ }
+{
+    put(&[4], out)
+}
+
 // Writes a refusal's three bytes, or none for the one that there is no room.
-fn write_refusal(refusal: Refusal, out: &mut [u8]) -> usize
-    requires { ⌜ 25 ≤ length (now out) ⌝ }
+pub fn write_refusal(refusal: Refusal, out: &mut [u8]) -> usize
+    requires { ⌜ answer-room ≤ length (now out) ⌝ }
     ensures { λ r. ⌜ r ≡ length (refusal-bytes refusal) ⌝ }
     ensures { λ r. ⌜ now (out .exit) ≡ refusal-bytes refusal ++ drop r (now (out .entry)) ⌝ }
 {
@@ -155,7 +165,7 @@ fn write_refusal(refusal: Refusal, out: &mut [u8]) -> usize
 
 // Writes an answer and gives its length.
 pub fn write_answer(answer: Answer, out: &mut [u8]) -> usize
-    requires { ⌜ 25 ≤ length (now out) ⌝ }
+    requires { ⌜ answer-room ≤ length (now out) ⌝ }
     ensures { λ r. ⌜ r ≡ length (answer-bytes answer) ⌝ }
     ensures { λ r. ⌜ now (out .exit) ≡ answer-bytes answer ++ drop r (now (out .entry)) ⌝ }
 {
@@ -169,7 +179,7 @@ pub fn write_answer(answer: Answer, out: &mut [u8]) -> usize
             out,
         ),
         Answer::Refused(refusal) => write_refusal(refusal, out),
-        Answer::Done => put(&[4], out),
+        Answer::Done => write_done(out),
         Answer::NoWind => put(&[5], out),
         Answer::Wind(w) => put(&wind_bytes(w), out),
     }

@@ -3,3 +3,4 @@ pub mod Drag
 pub mod Estimate
 pub mod Sample
 pub mod Wind
+pub mod Window

@@ -17,7 +17,7 @@ use Rattle.math.specs.Math.{zero, half, one}
 use Rattle.controllers.specs.declared.rate_divider.RateDivider.{RateDivider}
 use Rattle.controllers.specs.declared.rate_divider.RateDivider.the-variants.{NeverRan, Elapsed}
 use Rattle.controllers.specs.declared.rate_divider.Due.the-variants.{Step, NotYet}
-use Rattle.controllers.specs.RateDivider.{due, ran}
+use Rattle.controllers.specs.RateDivider.{due, ran, shortest, longest, Accepted, Legal, Bounded}
 
 -- ---- when a call is due
 
@@ -46,20 +46,6 @@ later-call-due before dt period t = step-by-test (le (period ⊖ half ⊗ dt) (b
 
 -- ---- accepted time steps
 
--- 1/4,096 s
-abbrev pub shortest : Float
-shortest = f32 0x3980_0000
-
--- 16,777,216 s, which is 2 ^ 24
-abbrev pub longest : Float
-longest = f32 0x4B80_0000
-
-abbrev pub Accepted : Float → Type 0
-Accepted dt = T (le shortest dt) × T (le dt one)
-
-abbrev pub Legal : Float → Type 0
-Legal t = T (le shortest t) × T (le t longest)
-
 pub accepted→legal : (dt : Float) → Accepted dt → Legal dt
 unfolding le ofBits
 accepted→legal dt a = (a .0, le-trans dt one longest (a .1) tt)
@@ -74,10 +60,6 @@ unfolding ofBits
 legal-finite t l = finite-between shortest t longest tt tt (l .0) (l .1)
 
 -- ---- the time since the last run
-
-abbrev pub Bounded : RateDivider → Type 0
-Bounded NeverRan = Unit {0}
-Bounded (Elapsed t) = T (le zero t) × T (le t longest)
 
 -- 2 ^ 24 + 1 is rounded to 2 ^ 24.
 legal-sum : (before dt : Float) → Bounded (Elapsed before) → Accepted dt → Legal (before ⊕ dt)
@@ -152,8 +134,12 @@ stays-due NeverRan dt dt' period t a a' h e = (dt', refl, subst (λ (z : Float).
 stays-due (Elapsed before) dt dt' period t a a' h e =
     let w = before ⊕ dt in
     let k = later-call-due before dt period t .0 e in
-    let l = waits-longer w dt dt' period a a' h (add-fits binary32 before dt) (k .0) in
-    (w ⊕ dt', later-call-due w dt' period (w ⊕ dt') .1 (le-trans (period ⊖ half ⊗ dt') w (w ⊕ dt') (l .0) (l .1), refl), subst (λ (z : Float). T (le z (w ⊕ dt'))) (k .1) (l .1))
+    let l = waits-longer w dt dt' period a a' h (add-fits binary32 before dt) (k .0) in (
+      w ⊕ dt',
+      later-call-due w dt' period (w ⊕ dt') .1 (le-trans (period ⊖ half ⊗ dt') w (w ⊕ dt') (l .0) (l .1), refl),
+      subst
+          (λ (z : Float). T (le z (w ⊕ dt'))) (k .1) (l .1),
+    )
 
 -- Not so where the next step is shorter: with a period of 10 s, 9.5 s are due at a step of 1 s, and a step of 1/4,096 s later the loop waits.
 pub shorter-step-waits :

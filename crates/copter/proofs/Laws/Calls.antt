@@ -1,17 +1,19 @@
 -- The five calls as one type, so that a law of each call is one statement. Assumes nothing.
+use mathlib.Core.Path.{_≡_, refl}
 use lib.Ieee.{Float}
-use Rattle.math.specs.Math.{zero}
 use Rattle.wind.specs.declared.state.VehicleState.{VehicleState}
 use Rattle.copter.specs.declared.commands.AttitudeCommand.{AttitudeCommand}
-use Rattle.copter.specs.declared.commands.TargetVelocity.the-variants as velocities
 use Rattle.copter.specs.declared.commands.WaypointCommand.{WaypointCommand}
 use Rattle.copter.specs.declared.commands.AbsoluteAttitudeCommand.{AbsoluteAttitudeCommand}
 use Rattle.copter.specs.declared.commands.LandCommand.{LandCommand}
 use Rattle.copter.specs.declared.commands.AbsoluteRateCommand.{AbsoluteRateCommand}
+use Rattle.copter.specs.declared.commands.Command.{Command}
+use Rattle.copter.specs.declared.commands.Command.the-variants as commands
 use Rattle.copter.specs.declared.memory.CopterGuidance.{CopterGuidance}
 use Rattle.copter.specs.declared.tilt.Course.{Course}
 use Rattle.copter.specs.declared.guide.Guided.{Guided}
-use Rattle.copter.specs.Guide.{attitude-call, absolute-attitude-call, absolute-rate-call, waypoint-call, land-call}
+use Rattle.copter.specs.Guide.{attitude-call, absolute-attitude-call, absolute-rate-call, waypoint-call, land-call, guide-call}
+use Rattle.copter.specs.Calls.{waypoint-course, land-course}
 
 pub data Piloted : Type 0 where
   attitude : AttitudeCommand → Piloted
@@ -41,6 +43,23 @@ guide self dt state (navigated call) = navigate self dt state call
 
 -- where a navigated call flies to
 abbrev pub course : Navigated → Course
-course (waypoint command) =
-    record { «position_m» = command .«position_m»; «velocity_mps» = command .«velocity_mps»; «cruise_speed_mps» = command .«cruise_speed_mps» }
-course (land command) = record { «position_m» = command .«position_m»; «velocity_mps» = velocities.Nothing; «cruise_speed_mps» = zero }
+course (waypoint command) = waypoint-course command
+course (land command) = land-course command
+
+-- ---- a command as a call
+
+abbrev pub call-of : Command → Call
+call-of (commands.Attitude command) = piloted (attitude command)
+call-of (commands.Waypoint command) = navigated (waypoint command)
+call-of (commands.AbsoluteAttitude command) = piloted (absolute-attitude command)
+call-of (commands.Land command) = navigated (land command)
+call-of (commands.AbsoluteRate command) = piloted (absolute-rate command)
+
+pub guide-call-of : (self : CopterGuidance) (dt : Float) (state : VehicleState) (command : Command)
+    → guide-call self dt state command ≡ guide self dt state (call-of command)
+unfolding guide-call
+guide-call-of self dt state (commands.Attitude command) = refl
+guide-call-of self dt state (commands.Waypoint command) = refl
+guide-call-of self dt state (commands.AbsoluteAttitude command) = refl
+guide-call-of self dt state (commands.Land command) = refl
+guide-call-of self dt state (commands.AbsoluteRate command) = refl

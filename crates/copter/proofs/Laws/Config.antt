@@ -1,11 +1,13 @@
--- The rules of the 50 fields of a configuration, in document 01's order, and which numbers the rules of this layer take. Which numbers the checks of
--- the layer below take is in its laws. The defaults keep all 50 rules. Assumes nothing.
-use Prim.Native.Nat.{ℕ, zero, suc}
-use mathlib.Core.Path.{_≡_, refl}
-use mathlib.Core.Bool.{Bool, true, _&&_}
+-- The fields of a configuration are those of document 01's order, by number and by name: `config-back`, `kept-is-valid`. The defaults keep all
+-- rules. Which numbers the rules of this layer take; those of the checks of the layer below are in its laws. Assumes nothing.
+use Prim.Native.Nat.{ℕ, zero, suc, _+_, _≤_, _<_}
+use mathlib.Core.Path.{_≡_, refl, subst}
+use mathlib.Core.Bool.{Bool, true, false, _&&_}
 use mathlib.Core.Logic.{_↔_}
-use mathlib.Core.List.{List, [], _∷_, _++_}
-use lib.Dec.{T}
+use mathlib.Core.List.{List}
+use native.Mathlib.Omega.{arith}
+use borrow.Author.Tests.{ltb-true, ltb-false}
+use lib.Dec.{T, ltb, lit≤}
 use lib.ListN.{length}
 use lib.Ieee.{Float, ofBits, lt, le}
 use lib.Ieee.Fits.{and-i, and-l, and-r}
@@ -13,33 +15,124 @@ use lib.Ieee.Scale.{finite}
 use Rattle.floats.specs.Ops.{f32}
 use Rattle.math.specs.Math as math
 use Rattle.controllers.specs.Checks.{check-limit, check-positive, check-unit-interval, check-tilt}
-use Rattle.controllers.proofs.Laws.Checks.{positive-is-above-zero-and-finite}
 use Rattle.copter.specs.declared.config.CopterGuidanceConfig.{CopterGuidanceConfig}
-use Rattle.copter.specs.Config.{below-one, above-descending, up-to-pi, among, rule}
-use Rattle.copter.specs.Config.{default-altitude, default-lateral, default-heading, default-guidance, default-thrust, default-wind, default-config}
+use Rattle.copter.specs.Config.{below-one, above-descending, up-to-pi, keeps, fields, field-count, defaults, nth, rule, lowest, config-of}
+use Rattle.copter.specs.Config.{fields-of, Valid}
 
--- ---- which field has which rule
+-- ---- the fields by number and by name
 
--- `count` fields from `field` on, each put to its rule
-unfoldable pub checked : ℕ → ℕ → Float → List Bool
-checked field zero value = []
-checked field (suc count) value = rule field value ∷ checked (suc field) count value
+pub fields-counted : length fields ≡ field-count
+unfolding fields
+fields-counted = refl
 
--- The fields are numbered from 1.
-pub rules-in-order : (value : Float) →
-    let limit = check-limit value in
-    let positive = check-positive value in
-    let unit = check-unit-interval value in
-    let altitude = limit ∷ limit ∷ limit ∷ limit ∷ unit ∷ limit ∷ [] in
-    let lateral = limit ∷ true ∷ true ∷ true ∷ limit ∷ limit ∷ limit ∷ unit ∷ [] in
-    let sticks = limit ∷ limit ∷ limit ∷ limit ∷ below-one value ∷ check-tilt value ∷ [] in
-    let descent = positive ∷ positive ∷ positive ∷ positive ∷ above-descending value ∷ [] in
-    let heading = limit ∷ positive ∷ limit ∷ limit ∷ limit ∷ limit ∷ limit ∷ up-to-pi value ∷ limit ∷ limit ∷ limit ∷ limit ∷ [] in
-    let thrust = below-one value ∷ limit ∷ limit ∷ unit ∷ [] in
-    let wind = limit ∷ limit ∷ limit ∷ limit ∷ limit ∷ limit ∷ limit ∷ limit ∷ limit ∷ [] in
-    checked 1 50 value ≡ altitude ++ lateral ++ sticks ++ descent ++ heading ++ thrust ++ wind
-unfolding checked rule among
-rules-in-order value = refl
+-- The numbers of a configuration, in order, make that configuration again.
+pub config-back : (config : CopterGuidanceConfig) → config-of (fields-of config) ≡ config
+unfolding config-of fields-of
+config-back config = refl
+
+-- each field keeps its rule, by number
+abbrev pub EachKeeps : List Float → Type 0
+EachKeeps values = (n : ℕ) → 1 ≤ n → n ≤ field-count → T (rule n (nth values n))
+
+-- and so by name
+pub kept-valid : (values : List Float) → EachKeeps values → Valid (config-of values)
+unfolding config-of rule
+kept-valid values keeps =
+    record {
+      altitude-gains-p = keeps 1 (lit≤ tt) (lit≤ tt);
+      altitude-gains-i = keeps 2 (lit≤ tt) (lit≤ tt);
+      altitude-gains-d = keeps 3 (lit≤ tt) (lit≤ tt);
+      altitude-max-integral = keeps 4 (lit≤ tt) (lit≤ tt);
+      hover-thrust = keeps 5 (lit≤ tt) (lit≤ tt);
+      integration-band-m = keeps 6 (lit≤ tt) (lit≤ tt);
+      position-p = keeps 7 (lit≤ tt) (lit≤ tt);
+      lateral-max-integral = keeps 11 (lit≤ tt) (lit≤ tt);
+      max-accel-mps2 = keeps 12 (lit≤ tt) (lit≤ tt);
+      brake-mps2 = keeps 13 (lit≤ tt) (lit≤ tt);
+      braking-share = keeps 14 (lit≤ tt) (lit≤ tt);
+      navigation-period-s = keeps 15 (lit≤ tt) (lit≤ tt);
+      max-stick-angles-rad-x = keeps 16 (lit≤ tt) (lit≤ tt);
+      max-stick-angles-rad-y = keeps 17 (lit≤ tt) (lit≤ tt);
+      stick-yaw-rate-radps = keeps 18 (lit≤ tt) (lit≤ tt);
+      idle-throttle = keeps 19 (lit≤ tt) (lit≤ tt);
+      max-tilt-rad = keeps 20 (lit≤ tt) (lit≤ tt);
+      max-descent-mps = keeps 21 (lit≤ tt) (lit≤ tt);
+      descent-accel-mps2 = keeps 22 (lit≤ tt) (lit≤ tt);
+      climb-decel-mps2 = keeps 23 (lit≤ tt) (lit≤ tt);
+      altitude-leash-m = keeps 24 (lit≤ tt) (lit≤ tt);
+      land-speed-mps = keeps 25 (lit≤ tt) (lit≤ tt);
+      waypoint-yaw-radps = keeps 26 (lit≤ tt) (lit≤ tt);
+      heading-rate-radps = keeps 27 (lit≤ tt) (lit≤ tt);
+      waypoint-yaw-min-leg-m = keeps 28 (lit≤ tt) (lit≤ tt);
+      heading-yield-rad = keeps 29 (lit≤ tt) (lit≤ tt);
+      heading-yield-rate-radps = keeps 30 (lit≤ tt) (lit≤ tt);
+      heading-yield-s = keeps 31 (lit≤ tt) (lit≤ tt);
+      wind-heading-min-mps = keeps 32 (lit≤ tt) (lit≤ tt);
+      wind-heading-from-wind-rad = keeps 33 (lit≤ tt) (lit≤ tt);
+      wind-heading-max-sd-rad = keeps 34 (lit≤ tt) (lit≤ tt);
+      wind-heading-deadband-rad = keeps 35 (lit≤ tt) (lit≤ tt);
+      airborne-height-m = keeps 36 (lit≤ tt) (lit≤ tt);
+      feedforward-hold-band-mps = keeps 37 (lit≤ tt) (lit≤ tt);
+      min-thrust = keeps 38 (lit≤ tt) (lit≤ tt);
+      sink-limit-mps = keeps 39 (lit≤ tt) (lit≤ tt);
+      sink-gain = keeps 40 (lit≤ tt) (lit≤ tt);
+      max-boost-thrust = keeps 41 (lit≤ tt) (lit≤ tt);
+      ballistic-kgpm2-x = keeps 42 (lit≤ tt) (lit≤ tt);
+      ballistic-kgpm2-y = keeps 43 (lit≤ tt) (lit≤ tt);
+      momentum-per-s-x = keeps 44 (lit≤ tt) (lit≤ tt);
+      momentum-per-s-y = keeps 45 (lit≤ tt) (lit≤ tt);
+      force-noise-mps2 = keeps 46 (lit≤ tt) (lit≤ tt);
+      process-noise-mps-per-rt-s = keeps 47 (lit≤ tt) (lit≤ tt);
+      initial-sd-mps = keeps 48 (lit≤ tt) (lit≤ tt);
+      gate-sigma = keeps 49 (lit≤ tt) (lit≤ tt);
+      max-axial-speed-mps = keeps 50 (lit≤ tt) (lit≤ tt);
+    }
+
+-- ---- and back
+
+-- At n or past it.
+pub here-or-later : (P : ℕ → Type 0) (n m : ℕ) → n ≤ m → P n → (suc n ≤ m → P m) → P m
+here-or-later P n m low here later = go (ltb n m) refl
+  where
+    go : (past : Bool) → ltb n m ≡ past → P m
+    go true past = later (ltb-true n m past)
+    go false past = let least = ltb-false n m past in let same : n ≡ m = omega arith in subst P same here
+
+-- one after another, from n on, d of them
+abbrev InTurn : (ℕ → Type 0) → ℕ → ℕ → Type 0
+InTurn P n zero = Unit {0}
+InTurn P n (suc d) = P n × InTurn P (suc n) d
+
+infixr 30 _▸_
+_▸_ : {A B : Type 0} → A → B → A × B
+first ▸ others = (first, others)
+
+each-in-turn : (P : ℕ → Type 0) (n d : ℕ) → InTurn P n d → (m : ℕ) → n ≤ m → m < n + d → P m
+each-in-turn P n zero all m low high = absurd (omega arith)
+each-in-turn P n (suc d) (first, others) m low high =
+    here-or-later P n m low first (λ later. each-in-turn P (suc n) d others m later (omega arith))
+
+-- What keeps its rule by name does so by number: no field has a rule that `Valid` does not name.
+pub valid-kept : (values : List Float) → Valid (config-of values) → EachKeeps values
+unfolding config-of rule
+valid-kept values valid n low high =
+    each-in-turn (λ (n : ℕ). T (rule n (nth values n))) 1 field-count
+    (valid .altitude-gains-p ▸ valid .altitude-gains-i ▸ valid .altitude-gains-d ▸ valid .altitude-max-integral ▸
+    valid .hover-thrust ▸ valid .integration-band-m ▸ valid .position-p ▸ tt ▸ tt ▸ tt ▸ valid .lateral-max-integral ▸
+    valid .max-accel-mps2 ▸ valid .brake-mps2 ▸ valid .braking-share ▸ valid .navigation-period-s ▸
+    valid .max-stick-angles-rad-x ▸ valid .max-stick-angles-rad-y ▸ valid .stick-yaw-rate-radps ▸
+    valid .idle-throttle ▸ valid .max-tilt-rad ▸ valid .max-descent-mps ▸ valid .descent-accel-mps2 ▸
+    valid .climb-decel-mps2 ▸ valid .altitude-leash-m ▸ valid .land-speed-mps ▸ valid .waypoint-yaw-radps ▸
+    valid .heading-rate-radps ▸ valid .waypoint-yaw-min-leg-m ▸ valid .heading-yield-rad ▸
+    valid .heading-yield-rate-radps ▸ valid .heading-yield-s ▸ valid .wind-heading-min-mps ▸
+    valid .wind-heading-from-wind-rad ▸ valid .wind-heading-max-sd-rad ▸ valid .wind-heading-deadband-rad ▸
+    valid .airborne-height-m ▸ valid .feedforward-hold-band-mps ▸ valid .min-thrust ▸ valid .sink-limit-mps ▸
+    valid .sink-gain ▸ valid .max-boost-thrust ▸ valid .ballistic-kgpm2-x ▸ valid .ballistic-kgpm2-y ▸
+    valid .momentum-per-s-x ▸ valid .momentum-per-s-y ▸ valid .force-noise-mps2 ▸ valid .process-noise-mps-per-rt-s ▸
+    valid .initial-sd-mps ▸ valid .gate-sigma ▸ valid .max-axial-speed-mps ▸ tt) n low (omega arith)
+
+pub kept-is-valid : (values : List Float) → EachKeeps values ↔ Valid (config-of values)
+kept-is-valid values = (kept-valid values, valid-kept values)
 
 -- ---- what a rule takes
 
@@ -59,56 +152,9 @@ pub up-to-pi-is-zero-to-pi : (value : Float) → T (up-to-pi value) ↔ T (le ma
 unfolding up-to-pi
 up-to-pi-is-zero-to-pi value = both (le math.zero value) (le value math.pi)
 
--- ---- the fields that the laws of descent and thrust rest on
-
-pub descent-limit-is-positive : (value : Float) → T (rule 21 value) ↔ T (lt math.zero value) × T (finite value)
-unfolding rule among
-descent-limit-is-positive value = positive-is-above-zero-and-finite value
-
-pub land-speed-is-above-touchdown : (value : Float) → T (rule 25 value) ↔ T (lt (f32 0x3E4C_CCCD) value) × T (finite value)
-unfolding rule among
-land-speed-is-above-touchdown value = above-descending-is-above-touchdown value
-
-pub floor-is-zero-to-below-one : (value : Float) → T (rule 38 value) ↔ T (le math.zero value) × T (lt value math.one)
-unfolding rule among
-floor-is-zero-to-below-one value = below-one-is-zero-to-below-one value
-
 -- ---- the defaults
 
--- the 50 fields in document 01's order
-unfoldable pub fields : CopterGuidanceConfig → List Float
-fields config =
-    let a = config .altitude in
-    let l = config .lateral in
-    let g = config .guidance in
-    let h = g .heading in
-    let t = config .thrust in
-    let w = config .wind in
-    let altitude = a .gains .p ∷ a .gains .i ∷ a .gains .d ∷ a .«max_integral» ∷ a .«hover_thrust» ∷ a .«integration_band_m» ∷ [] in
-    let lateral =
-    l .«position_p» ∷ l .velocity .p ∷ l .velocity .i ∷ l .velocity .d ∷ l .«max_integral» ∷ l .«max_accel_mps2» ∷ l .«brake_mps2»
-    ∷ l .«braking_share» ∷ [] in
-    let sticks =
-    g .«navigation_period_s» ∷ g .«max_stick_angles_rad» .x ∷ g .«max_stick_angles_rad» .y ∷ g .«stick_yaw_rate_radps» ∷ g .«idle_throttle»
-    ∷ g .«max_tilt_rad» ∷ [] in
-    let descent =
-    g .«max_descent_mps» ∷ g .«descent_accel_mps2» ∷ g .«climb_decel_mps2» ∷ g .«altitude_leash_m» ∷ g .«land_speed_mps» ∷ [] in
-    let heading =
-    h .«waypoint_yaw_radps» ∷ h .«heading_rate_radps» ∷ h .«waypoint_yaw_min_leg_m» ∷ h .«heading_yield_rad» ∷ h .«heading_yield_rate_radps»
-    ∷ h .«heading_yield_s» ∷ h .«wind_heading_min_mps» ∷ h .«wind_heading_from_wind_rad» ∷ h .«wind_heading_max_sd_rad»
-    ∷ h .«wind_heading_deadband_rad» ∷ g .«airborne_height_m» ∷ g .«feedforward_hold_band_mps» ∷ [] in
-    let thrust = t .«min_thrust» ∷ t .«sink_limit_mps» ∷ t .«sink_gain» ∷ t .«max_boost_thrust» ∷ [] in
-    let wind =
-    w .«ballistic_kgpm2» .x ∷ w .«ballistic_kgpm2» .y ∷ w .«momentum_per_s» .x ∷ w .«momentum_per_s» .y ∷ w .«force_noise_mps2»
-    ∷ w .«process_noise_mps_per_rt_s» ∷ w .«initial_sd_mps» ∷ w .«gate_sigma» ∷ w .«max_axial_speed_mps» ∷ [] in
-    altitude ++ lateral ++ sticks ++ descent ++ heading ++ thrust ++ wind
-
--- the fields from `field` on keep their rules
-unfoldable pub all-kept : ℕ → List Float → Bool
-all-kept field [] = true
-all-kept field (value ∷ values) = rule field value && all-kept (suc field) values
-
-pub defaults-keep-rules : (length (fields default-config) ≡ 50) × (all-kept 1 (fields default-config) ≡ true)
-unfolding fields default-config default-altitude default-lateral default-heading default-guidance default-thrust default-wind all-kept rule among
-    check-limit check-positive check-unit-interval check-tilt below-one above-descending up-to-pi ofBits lt le
-defaults-keep-rules = (refl, refl)
+-- The search for a field that breaks its rule ends past the last.
+pub defaults-keep-rules : lowest defaults 1 field-count ≡ suc field-count
+unfolding lowest rule defaults check-limit check-positive check-unit-interval check-tilt below-one above-descending up-to-pi ofBits lt le
+defaults-keep-rules = refl

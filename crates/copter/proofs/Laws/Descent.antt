@@ -15,21 +15,20 @@ use Rattle.altitude.specs.declared.AltitudeTarget.{AltitudeTarget}
 use Rattle.altitude.proofs.Laws.Cases.{cond-holds}
 use Rattle.copter.specs.declared.config.CopterGuidanceConfig.{CopterGuidanceConfig}
 use Rattle.copter.specs.declared.memory.AltitudeHold.{AltitudeHold}
-use Rattle.copter.specs.declared.memory.AltitudeHold.the-variants.{Nothing, Height}
+use Rattle.copter.specs.declared.memory.AltitudeHold.the-variants.{Nothing}
 use Rattle.copter.specs.declared.descent.Descent.{Descent}
 use Rattle.copter.specs.declared.descent.DescentStart.{DescentStart}
 use Rattle.copter.specs.declared.descent.DescentStart.the-variants.{Unknown, From}
 use Rattle.copter.specs.declared.descent.Descended.{Descended}
-use Rattle.copter.specs.Config.{rule}
+use Rattle.controllers.specs.Checks.{check-positive}
+use Rattle.controllers.proofs.Laws.Checks.{positive-is-above-zero-and-finite}
+use Rattle.copter.specs.Config.{above-descending}
 use Rattle.copter.specs.Descent.{lowered, descent-start, ramped, descent-rate, finite-height, level-at}
 use Rattle.copter.specs.Descent.{toward, descended-from, descend-toward, landing, landed-from, land-descent}
-use Rattle.copter.proofs.Laws.Config.{descent-limit-is-positive, land-speed-is-above-touchdown}
+use Rattle.copter.specs.Calls.{NoneOrFinite}
+use Rattle.copter.proofs.Laws.Config.{above-descending-is-above-touchdown}
 
 -- ---- the target is none or a finite height
-
-abbrev pub NoneOrFinite : AltitudeHold → Type 0
-NoneOrFinite Nothing = Unit {0}
-NoneOrFinite (Height height) = T (finite height)
 
 finite-height-is-finite : (height : Float) → NoneOrFinite (finite-height height)
 unfolding finite-height
@@ -92,18 +91,18 @@ pub ramped-at-most-limit : (config : CopterGuidanceConfig) (dt limit speed : Flo
 unfolding ramped
 ramped-at-most-limit config dt limit speed n = min-le-left limit _ n
 
-module _ (config : CopterGuidanceConfig) (kept : T (rule 21 (config .guidance .«max_descent_mps»))) where
+module _ (config : CopterGuidanceConfig) (kept : T (check-positive (config .guidance .«max_descent_mps»))) where
   abbrev limit : Float
   limit = config .guidance .«max_descent_mps»
 
   positive : T (lt zero limit)
-  positive = descent-limit-is-positive limit .0 kept .0
+  positive = positive-is-above-zero-and-finite limit .0 kept .0
 
   pub rate-at-most-limit : (height : Float) → T (le (descent-rate config height) limit)
   unfolding descent-rate
   rate-at-most-limit height =
       min-le-right (shaped-closing-speed height (config .altitude .gains .p) (config .guidance .«descent_accel_mps2»)) limit
-      (finite→number limit (descent-limit-is-positive limit .0 kept .1))
+      (finite→number limit (positive-is-above-zero-and-finite limit .0 kept .1))
 
   -- the lower of two rates
   slower-at-most-limit : (height rate : Float) → T (le (min (descent-rate config height) rate) limit)
@@ -135,14 +134,14 @@ module _ (config : CopterGuidanceConfig) (kept : T (rule 21 (config .guidance .�
   waypoint-speed-capped dt hold speed waypoint altitude climb =
       descended-at-most-limit (descent-start hold speed altitude climb) dt hold waypoint altitude
 
-module _ (config : CopterGuidanceConfig) (kept : T (rule 25 (config .guidance .«land_speed_mps»))) where
+module _ (config : CopterGuidanceConfig) (kept : T (above-descending (config .guidance .«land_speed_mps»))) where
   abbrev land-speed : Float
   land-speed = config .guidance .«land_speed_mps»
 
   rest-at-most-land-speed : T (le zero land-speed)
   unfolding ofBits lt eq le
   rest-at-most-land-speed =
-      le-trans zero (f32 0x3E4C_CCCD) land-speed tt (lt→le (f32 0x3E4C_CCCD) land-speed (land-speed-is-above-touchdown land-speed .0 kept .0))
+      le-trans zero (f32 0x3E4C_CCCD) land-speed tt (lt→le (f32 0x3E4C_CCCD) land-speed (above-descending-is-above-touchdown land-speed .0 kept .0))
 
   landing-at-most-land-speed : (height rate : Float) → T (le rate land-speed) → T (le (landing height rate .«speed_mps») land-speed)
   unfolding landing
@@ -156,7 +155,7 @@ module _ (config : CopterGuidanceConfig) (kept : T (rule 25 (config .guidance .�
   landed-at-most-land-speed (From from) dt speed altitude =
       let rate = ramped config dt land-speed (from .«speed_mps») in
       landing-at-most-land-speed (lowered (from .«start_m») (rate ⊗ dt) altitude (config .guidance .«altitude_leash_m»)) rate
-      (ramped-at-most-limit config dt land-speed (from .«speed_mps») (finite→number land-speed (land-speed-is-above-touchdown land-speed .0 kept .1)))
+      (ramped-at-most-limit config dt land-speed (from .«speed_mps») (finite→number land-speed (above-descending-is-above-touchdown land-speed .0 kept .1)))
 
   -- at most field 25
   pub land-speed-capped : (dt : Float) (hold : AltitudeHold) (speed altitude climb : Float)

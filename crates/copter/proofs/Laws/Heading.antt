@@ -1,17 +1,16 @@
--- The heading target after each call: at least -π and below π wherever what it was to be, or else the estimate, is finite, and kept otherwise. A priming
--- stores the heading as given. Assumes nothing.
-use mathlib.Core.Path.{_≡_, refl, _∙_}
-use mathlib.Core.Bool.{not}
+-- The heading target after each call: wrapped; if the wrap is not finite, the wrapped estimate; if that is not finite either, kept. A wrapped finite angle is
+-- at least -π and below π. A priming stores the heading as given. Assumes nothing.
+use mathlib.Core.Path.{_≡_, refl}
 use lib.Dec.{T}
-use lib.Ieee.{Float, binary32, neg, lt, le, fits, ofBits}
+use lib.Ieee.{Float, binary32, lt, fits}
 use lib.Ieee.Bits.{is-true, is-false}
 use lib.Ieee.Fits.{cond-fits, add-fits, sub-fits}
 use lib.Ieee.Scale.{finite}
 use Rattle.floats.specs.Ops.{_⊕_, _⊖_, _⊗_}
-use Rattle.floats.proofs.Laws.Order.{lt→le, finite-between}
+use Rattle.floats.proofs.Laws.Order.{same-test}
 use Rattle.math.specs.Math.{zero, pi, tau, saturate-unit, clamp-symmetric, rem-euclid, wrap-angle}
 use Rattle.math.proofs.Laws.Limits.{by-test}
-use Rattle.math.proofs.Laws.Wrap.{wrap-range, wrap-finite, wrap-not-finite}
+use Rattle.math.proofs.Laws.Wrap.{wrap-range, wrap-finite, wrap-not-finite, wrap-twice}
 use Rattle.wind.specs.declared.state.VehicleState.{VehicleState}
 use Rattle.heading.specs.HoverWind as hover
 use Rattle.heading.specs.LegHeading as leg
@@ -24,52 +23,78 @@ use Rattle.heading.specs.declared.leg_heading.Turn.{Turn}
 use Rattle.wind.specs.declared.window.Filter.{Filter}
 use Rattle.math.specs.declared.vectors.Vec2.{Vec2}
 use Rattle.copter.specs.declared.commands.AttitudeCommand.{AttitudeCommand}
+use Rattle.copter.specs.declared.commands.WaypointCommand.{WaypointCommand}
 use Rattle.copter.specs.declared.commands.AbsoluteAttitudeCommand.{AbsoluteAttitudeCommand}
+use Rattle.copter.specs.declared.commands.LandCommand.{LandCommand}
 use Rattle.copter.specs.declared.commands.AbsoluteRateCommand.{AbsoluteRateCommand}
 use Rattle.copter.specs.declared.memory.CopterGuidance.{CopterGuidance}
 use Rattle.copter.specs.Guide.{followed-heading, heading-target, command-heading, wind-updated, piloted, prime}
 use Rattle.copter.specs.Guide.{attitude-call, absolute-attitude-call, absolute-rate-call, fly-to, waypoint-call, land-call}
-use Rattle.copter.proofs.Laws.Calls.{Navigated, waypoint, land, navigate}
-
--- at least -π and below π
-abbrev pub Wrapped : Float → Type 0
-Wrapped x = T (le (neg pi) x) × T (lt x pi)
-
-wrapped-finite : (x : Float) → Wrapped x → T (finite x)
-unfolding neg ofBits
-wrapped-finite x w = finite-between (neg pi) x pi tt tt (w .0) (lt→le x pi (w .1))
+use Rattle.copter.specs.Calls.{Heads, HeadsTo, as-it-is, rewrapped, stick-turned, waypoint-turn, land-turn}
 
 wrap-fits : (x : Float) → T (fits binary32 (wrap-angle x))
 unfolding wrap-angle
 wrap-fits x = sub-fits binary32 (rem-euclid (x ⊕ pi) tau) pi
 
+-- only a finite angle has a finite wrap
+finite-wrapped : (x : Float) → T (finite (wrap-angle x)) → T (finite x)
+finite-wrapped x h = by-test (finite x) (λ q. q) (λ n. absurd (rw (wrap-not-finite x n) at h))
+
+wrap-finite-alike : (x : Float) → T (fits binary32 x) → finite (wrap-angle x) ≡ finite x
+wrap-finite-alike x p = same-test (finite (wrap-angle x)) (finite x) (finite-wrapped x) (wrap-finite x p)
+
 -- ---- the rule
 
--- what a heading target becomes that was `kept` and was to be `target`
-pub record Rule (kept target estimate after : Float) : Type 0 where
-  pub of-target : T (finite target) → Wrapped after
-  pub of-estimate : T (finite estimate) → Wrapped after
-  pub kept-else : T (not (finite target)) → T (not (finite estimate)) → after ≡ kept
-
 -- an estimate that is followed is what the target was to be
-pub followed-rule : (kept estimate : Float) → T (fits binary32 estimate) → Rule kept estimate estimate (followed-heading kept estimate)
+pub followed-heads : (kept estimate : Float) → T (fits binary32 estimate) → Heads kept estimate estimate (followed-heading kept estimate)
 unfolding followed-heading
-followed-rule kept estimate p =
-    let wrapped : T (finite estimate) → Wrapped (followed-heading kept estimate) = λ q. rw (is-true (finite estimate) q) (wrap-range estimate p q) in
-    record { of-target = wrapped; of-estimate = wrapped; kept-else = λ q r. rw (is-false (finite estimate) q) }
-
-pub heading-rule : (kept target estimate : Float) → T (fits binary32 target) → T (fits binary32 estimate)
-    → Rule kept target estimate (heading-target kept target estimate)
-unfolding heading-target
-heading-rule kept target estimate p r =
-    let followed = followed-rule kept estimate r in
-    let of-target : T (finite target) → Wrapped (heading-target kept target estimate) =
-    λ q. rw (is-true (finite (wrap-angle target)) (wrap-finite target p q)) (wrap-range target p q) in
+followed-heads kept estimate p =
+    let wrapped = finite (wrap-angle estimate) in
+    let alike = wrap-finite-alike estimate p in
+    let followed : T wrapped → followed-heading kept estimate ≡ wrap-angle estimate = λ q. rw (← alike, is-true wrapped q) in
     record {
-      of-target = of-target;
-      of-estimate = λ q. by-test (finite target) of-target (λ n. rw (wrap-not-finite target n) (followed .of-estimate q));
-      kept-else = λ n q. rw (wrap-not-finite target n) (followed .kept-else q q);
+      to-target = followed;
+      to-estimate = λ _. followed;
+      kept-else = λ _ n. rw (← alike, is-false wrapped n);
+      target-range = wrap-range estimate p;
+      estimate-range = wrap-range estimate p;
     }
+
+pub target-heads : (kept target estimate : Float) → T (fits binary32 target) → T (fits binary32 estimate)
+    → Heads kept target estimate (heading-target kept target estimate)
+unfolding heading-target
+target-heads kept target estimate p r =
+    let wrapped = finite (wrap-angle target) in
+    let followed = followed-heads kept estimate r in
+    record {
+      to-target = λ q. rw (is-true wrapped q);
+      to-estimate = λ n q. rw (is-false wrapped n) (followed .to-target q);
+      kept-else = λ n m. rw (is-false wrapped n) (followed .kept-else m m);
+      target-range = wrap-range target p;
+      estimate-range = followed .estimate-range;
+    }
+
+-- a wrapped heading set again stays
+wrapped-stays : (x estimate : Float) → T (fits binary32 x) → T (finite (wrap-angle x)) → heading-target (wrap-angle x) (wrap-angle x) estimate ≡ wrap-angle x
+unfolding heading-target
+wrapped-stays x estimate p q = rw (wrap-twice x p (finite-wrapped x q), is-true (finite (wrap-angle x)) q)
+
+-- Set twice, to `target` and then to itself, as a waypoint or land call does. What is kept is then wrapped.
+pub twice-heads : (kept target estimate : Float) → T (fits binary32 target) → T (fits binary32 estimate)
+    → Heads (rewrapped kept) target estimate
+    (heading-target (heading-target kept target estimate) (heading-target kept target estimate) estimate)
+unfolding heading-target
+twice-heads kept target estimate p r =
+    let first = target-heads kept target estimate p r in
+    record {
+      to-target = λ q. rw (first .to-target q) (wrapped-stays target estimate p q);
+      to-estimate = λ n q. rw (first .to-estimate n q) (wrapped-stays estimate estimate r q);
+      kept-else = λ n m. rw (first .kept-else n m, followed-heads kept estimate r .kept-else m m);
+      target-range = first .target-range;
+      estimate-range = first .estimate-range;
+    }
+
+-- ---- it is a float of 32 bits
 
 pub followed-fits : (kept estimate : Float) → T (fits binary32 kept) → T (fits binary32 (followed-heading kept estimate))
 unfolding followed-heading
@@ -79,30 +104,6 @@ pub heading-fits : (kept target estimate : Float) → T (fits binary32 kept) →
 unfolding heading-target
 heading-fits kept target estimate p =
     cond-fits binary32 (finite (wrap-angle target)) (wrap-angle target) (followed-heading kept estimate) (wrap-fits target) (followed-fits kept estimate p)
-
--- What becomes of it where it is set twice, to `target` and then to itself, as a waypoint or land call does.
-pub record TwiceRule (kept target estimate after : Float) : Type 0 where
-  pub of-target : T (finite target) → Wrapped after
-  pub of-estimate : T (finite estimate) → Wrapped after
-  pub of-kept : T (finite kept) → Wrapped after
-  pub kept-else : T (not (finite target)) → T (not (finite estimate)) → T (not (finite kept)) → after ≡ kept
-
-pub twice-rule : (kept target estimate : Float) → T (fits binary32 kept) → T (fits binary32 target) → T (fits binary32 estimate)
-    → TwiceRule kept target estimate (heading-target (heading-target kept target estimate) (heading-target kept target estimate) estimate)
-twice-rule kept target estimate p q r =
-    let turned = heading-target kept target estimate in
-    let first = heading-rule kept target estimate q r in
-    let second = heading-rule turned turned estimate (heading-fits kept target estimate p) r in
-    let of-target : T (finite target) → Wrapped (heading-target turned turned estimate) =
-    λ h. second .of-target (wrapped-finite turned (first .of-target h)) in
-    record {
-      of-target = of-target;
-      of-estimate = second .of-estimate;
-      of-kept =
-          λ h. by-test (finite target) of-target
-          (λ n. by-test (finite estimate) (second .of-estimate) (λ m. second .of-target (rw (first .kept-else n m) h)));
-      kept-else = λ n m k. second .kept-else (rw (first .kept-else n m) k) m ∙ first .kept-else n m;
-    }
 
 -- ---- the turned heading of a navigated call is a float of 32 bits
 
@@ -168,54 +169,43 @@ module _ (dt : Float) (config : HeadingConfig) (target : Float) (state : Vehicle
 abbrev pub heading : CopterGuidance → Float
 heading craft = craft .memory .«heading_rad»
 
--- what the yaw stick turns it to
-abbrev pub stick-turned : CopterGuidance → Float → AttitudeCommand → Float
-stick-turned self dt command = heading self ⊕ saturate-unit (command .yaw) ⊗ self .config .guidance .«stick_yaw_rate_radps» ⊗ dt
-
 abbrev updated-estimate : CopterGuidance → Float → VehicleState → Filter
 updated-estimate self dt state = hover.estimate (wind-updated (self .memory) (self .config) dt state)
 
--- what a navigated call turns it to
-abbrev pub turned : CopterGuidance → Float → VehicleState → Navigated → Float
-turned self dt state (waypoint command) =
-    leg.target (self .memory .«leg_heading») dt (self .config .guidance .heading) (heading self) (command .«position_m») (command .«heading_rad»)
-    (updated-estimate self dt state) state
-    .«heading_rad»
-turned self dt state (land command) =
-    leg.land-target (self .memory .«leg_heading») dt (self .config .guidance .heading) (heading self) (updated-estimate self dt state) state .«heading_rad»
-
 module _ (self : CopterGuidance) (dt : Float) (state : VehicleState)
     (p : T (fits binary32 (heading self))) (q : T (fits binary32 (state .«heading_rad»))) where
-  pub attitude-heading : (command : AttitudeCommand)
-      → Rule (heading self) (stick-turned self dt command) (state .«heading_rad») (heading (attitude-call self dt state command .craft))
+  pub attitude-heading : (command : AttitudeCommand) → HeadsTo self state as-it-is (stick-turned self dt command) (attitude-call self dt state command)
   unfolding attitude-call piloted
   attitude-heading command =
-      heading-rule (heading self) (stick-turned self dt command) (state .«heading_rad»)
+      target-heads (heading self) (stick-turned self dt command) (state .«heading_rad»)
       (add-fits binary32 (heading self) (saturate-unit (command .yaw) ⊗ self .config .guidance .«stick_yaw_rate_radps» ⊗ dt)) q
 
   pub absolute-attitude-heading : (command : AbsoluteAttitudeCommand) → T (fits binary32 (command .«heading_rad»))
-      → Rule (heading self) (command-heading (heading self) (command .«heading_rad»)) (state .«heading_rad»)
-      (heading (absolute-attitude-call self dt state command .craft))
+      → HeadsTo self state as-it-is (command-heading (heading self) (command .«heading_rad»)) (absolute-attitude-call self dt state command)
   unfolding absolute-attitude-call piloted command-heading
   absolute-attitude-heading command r =
       let commanded = command .«heading_rad» in
-      heading-rule (heading self) (command-heading (heading self) commanded) (state .«heading_rad»)
+      target-heads (heading self) (command-heading (heading self) commanded) (state .«heading_rad»)
       (cond-fits binary32 (finite commanded) commanded (heading self) r p) q
 
   pub absolute-rate-heading : (command : AbsoluteRateCommand)
-      → Rule (heading self) (state .«heading_rad») (state .«heading_rad») (heading (absolute-rate-call self dt state command .craft))
+      → HeadsTo self state as-it-is (state .«heading_rad») (absolute-rate-call self dt state command)
   unfolding absolute-rate-call piloted
-  absolute-rate-heading command = followed-rule (heading self) (state .«heading_rad») q
+  absolute-rate-heading command = followed-heads (heading self) (state .«heading_rad») q
 
-  pub navigated-heading : (call : Navigated)
-      → TwiceRule (heading self) (turned self dt state call) (state .«heading_rad») (heading (navigate self dt state call .craft))
-  unfolding waypoint-call land-call fly-to
-  navigated-heading (waypoint command) =
-      twice-rule (heading self) (turned self dt state (waypoint command)) (state .«heading_rad») p
+  pub waypoint-heading : (command : WaypointCommand)
+      → HeadsTo self state rewrapped (waypoint-turn self dt state command .«heading_rad») (waypoint-call self dt state command)
+  unfolding waypoint-call fly-to
+  waypoint-heading command =
+      twice-heads (heading self) (waypoint-turn self dt state command .«heading_rad») (state .«heading_rad»)
       (leg-target-fits dt (self .config .guidance .heading) (heading self) state p q (self .memory .«leg_heading»)
       (command .«position_m») (command .«heading_rad») (updated-estimate self dt state)) q
-  navigated-heading (land command) =
-      twice-rule (heading self) (turned self dt state (land command)) (state .«heading_rad») p
+
+  pub land-heading : (command : LandCommand)
+      → HeadsTo self state rewrapped (land-turn self dt state .«heading_rad») (land-call self dt state command)
+  unfolding land-call fly-to
+  land-heading command =
+      twice-heads (heading self) (land-turn self dt state .«heading_rad») (state .«heading_rad»)
       (land-target-fits dt (self .config .guidance .heading) (heading self) state p q (self .memory .«leg_heading») (updated-estimate self dt state)) q
 
 -- ---- a priming

@@ -1,23 +1,19 @@
 -- The lateral loop of a waypoint or land call. A due call with a number that is not finite answers level, keeps the stored tilt, clears capped and does not
 -- restart the divider. While the divider is due from a reset, the stored tilt and capped reach no answer. Assumes nothing.
-use mathlib.Core.Path.{_≡_, refl, sym, _∙_}
-use mathlib.Core.Bool.{Bool, true, false, not, cond, _&&_}
-use mathlib.Core.Logic.{_↔_, _⊎_, inl, inr}
+use mathlib.Core.Path.{_≡_, refl, sym, ap, _∙_}
+use mathlib.Core.Bool.{Bool, true, false, not, cond}
+use mathlib.Core.Logic.{_⊎_, inl, inr}
 use lib.Dec.{T}
 use lib.Ieee.{Float}
 use lib.Ieee.Bits.{is-true, is-false}
-use lib.Ieee.Fits.{and-i, and-l, and-r}
-use lib.Ieee.Scale.{finite}
-use Rattle.math.specs.Math.{all-finite}
-use Rattle.math.specs.Vectors.{zeros, minus}
+use Rattle.math.specs.Vectors.{zeros}
 use Rattle.math.specs.declared.vectors.Vec2.{Vec2}
 use Rattle.math.proofs.Laws.Limits.{by-test}
-use Rattle.controllers.specs.RateDivider.{due}
-use Rattle.controllers.specs.declared.rate_divider.RateDivider.{RateDivider}
+use Rattle.controllers.specs.RateDivider.{due, Accepted, Bounded}
 use Rattle.controllers.specs.declared.rate_divider.RateDivider.the-variants.{NeverRan}
-use Rattle.controllers.specs.declared.rate_divider.Due.the-variants.{Step}
+use Rattle.controllers.specs.declared.rate_divider.Due.the-variants.{Step, NotYet}
 use Rattle.controllers.specs.declared.rate_divider.Paced.{Paced}
-use Rattle.controllers.proofs.Laws.Divider.{first-call-due}
+use Rattle.controllers.proofs.Laws.Divider.{first-call-due, step-is-legal}
 use Rattle.lateral.specs.declared.LateralTarget.{LateralTarget}
 use Rattle.lateral.specs.declared.LateralEstimate.{LateralEstimate}
 use Rattle.wind.specs.declared.state.VehicleState.{VehicleState}
@@ -25,99 +21,121 @@ use Rattle.wind.specs.declared.window.Filter.{Filter}
 use Rattle.heading.specs.HoverWind as hover
 use Rattle.heading.specs.declared.hover_wind.HoverWind.{HoverWind}
 use Rattle.heading.specs.declared.leg_heading.Turn.{Turn}
-use Rattle.copter.specs.declared.commands.Setpoint.{Setpoint}
-use Rattle.copter.specs.declared.commands.Setpoint.the-variants.{Attitude, BodyRate}
 use Rattle.copter.specs.declared.config.CopterGuidanceConfig.{CopterGuidanceConfig}
 use Rattle.copter.specs.declared.memory.LateralMemory.{LateralMemory}
 use Rattle.copter.specs.declared.memory.CopterGuidance.{CopterGuidance}
 use Rattle.copter.specs.declared.descent.Descended.{Descended}
 use Rattle.copter.specs.declared.tilt.Course.{Course}
 use Rattle.copter.specs.declared.tilt.Tilted.{Tilted}
-use Rattle.copter.specs.declared.guide.Guided.{Guided}
-use Rattle.copter.specs.Tilt.{lateral-target, lateral-estimate, navigable, limit, run, levelled, wind-or-zero, tilted-when, tilt-toward}
+use Rattle.copter.specs.Tilt.{lateral-target, lateral-estimate, navigable, limit, run, held, levelled, wind-or-zero, tilted-when, tilt-toward}
 use Rattle.copter.specs.Guide.{fly-to, waypoint-call, land-call}
+use Rattle.copter.specs.Calls.{able, paced, NotRun, NotDue, Runs, LateralCall}
 use Rattle.copter.proofs.Laws.Calls.{Navigated, waypoint, land, navigate, course}
 
 -- ---- what a due call needs
 
-pub navigable-when : (target : LateralTarget) (own : LateralEstimate) (heading : Float)
-    → T (navigable target own heading)
-    ↔ T (all-finite (minus (target .«position_m») (own .«position_m»))) × T (all-finite (target .«velocity_mps»)) × T (all-finite (own .«velocity_mps»))
-    × T (finite heading)
-unfolding navigable
-navigable-when target own heading =
-    let a = all-finite (minus (target .«position_m») (own .«position_m»)) in
-    let b = all-finite (target .«velocity_mps») in
-    let c = all-finite (own .«velocity_mps») in
-    let d = finite heading in (
-      λ h.
-          let abc = and-l (a && b && c) d h in
-          let ab = and-l (a && b) c abc in (and-l a b ab, and-r a b ab, and-r (a && b) c abc, and-r (a && b && c) d h),
-      λ h. and-i (a && b && c) d (and-i (a && b) c (and-i a b (h .0) (h .1)) (h .2)) (h .3),
-    )
+able-navigable : (course : Course) (state : VehicleState)
+    → navigable (lateral-target course) (lateral-estimate state) (state .«heading_rad») ≡ able course state
+unfolding navigable lateral-target lateral-estimate
+able-navigable course state = refl
 
--- whether the numbers of a call that flies a course are finite
-abbrev pub able : Course → VehicleState → Bool
-able course state = navigable (lateral-target course) (lateral-estimate state) (state .«heading_rad»)
-
--- how the divider of a lateral memory goes on
-abbrev pub paced : LateralMemory → CopterGuidanceConfig → Float → Paced
-paced self config dt = due (self .rate) dt (config .guidance .«navigation_period_s»)
-
--- ---- a due call with a number that is not finite
-
--- what is left of `before` where the loop was due and did not run, `rate` being what the divider left
-pub record NotRun (before : LateralMemory) (rate : RateDivider) (after : LateralMemory) : Type 0 where
-  pub tilt-kept : after .«tilt_rad» ≡ before .«tilt_rad»
-  pub capped-cleared : after .«tilt_capped» ≡ false
-  pub not-restarted : after .rate ≡ rate
-  pub controller-kept : after .controller ≡ before .controller
-  pub request-kept : after .«requested_accel_mps2» ≡ before .«requested_accel_mps2»
-
-levelled-keeps : (self : LateralMemory) (rate : RateDivider) → NotRun self rate (levelled self rate .memory)
-unfolding levelled
-levelled-keeps self rate = record { tilt-kept = refl; capped-cleared = refl; not-restarted = refl; controller-kept = refl; request-kept = refl }
+-- ---- the lateral loop of a call
 
 module _ (self : LateralMemory) (config : CopterGuidanceConfig) (dt : Float) (course : Course) (estimate : Filter) (state : VehicleState) where
-  pub not-able-is-level : (step : Float) → paced self config dt .due ≡ Step step → T (not (able course state))
-      → tilt-toward self config dt course estimate state ≡ levelled self (paced self config dt .divider)
+  abbrev pace : Paced
+  pace = due (self .rate) dt (config .guidance .«navigation_period_s»)
+
+  -- a due call with a number that is not finite
+  pub not-able-is-level : (step : Float) → pace .due ≡ Step step → T (not (able course state))
+      → tilt-toward self config dt course estimate state ≡ levelled self (pace .divider)
   unfolding tilt-toward tilted-when
-  not-able-is-level step d n = rw (d, is-false (able course state) n)
+  not-able-is-level step d n = rw (d, able-navigable course state, is-false (able course state) n)
+
+  -- a call that is not due
+  pub not-due-is-held : pace .due ≡ NotYet → tilt-toward self config dt course estimate state ≡ held self (pace .divider)
+  unfolding tilt-toward tilted-when
+  not-due-is-held d = rw d
+
+  -- a due call whose numbers are finite
+  pub able-runs : (step : Float) → pace .due ≡ Step step → T (able course state)
+      → tilt-toward self config dt course estimate state
+      ≡ run self config step (lateral-target course) (lateral-estimate state) (wind-or-zero estimate) (state .«heading_rad»)
+  unfolding tilt-toward tilted-when
+  able-runs step d t = rw (d, able-navigable course state, is-true (able course state) t)
 
   -- a first call leaves the next one due
   pub first-call-leaves-due : self .rate ≡ NeverRan → T (not (able course state)) → (next period : Float)
       → due (tilt-toward self config dt course estimate state .memory .rate) next period ≡ record { divider = NeverRan; due = Step next }
   unfolding tilt-toward tilted-when levelled
   first-call-leaves-due e n next period =
-      rw (e, first-call-due dt (config .guidance .«navigation_period_s»), is-false (able course state) n, first-call-due next period)
+      rw (
+        e,
+        first-call-due dt (config .guidance .«navigation_period_s»),
+        able-navigable course state,
+        is-false (able course state) n,
+        first-call-due next period,
+      )
 
--- the tilt that a setpoint asks for
-abbrev pub Tilts : Setpoint → Vec2 → Type 0
-Tilts (Attitude setpoint) tilt = (setpoint .«roll_rad» ≡ tilt .x) × (setpoint .«pitch_rad» ≡ tilt .y)
-Tilts (BodyRate setpoint) tilt = ⊥
+module _ (self : CopterGuidance) (dt : Float) (state : VehicleState) where
+  module _ (course : Course) (descended : Descended) (turn : Turn) (wind : HoverWind) where
+    fly-to-not-run : (step : Float) → paced self dt .due ≡ Step step → T (not (able course state))
+        → NotRun (self .memory .lateral) (paced self dt .divider) (fly-to self dt state course descended turn wind)
+    unfolding fly-to levelled
+    fly-to-not-run step d n =
+        rw (not-able-is-level (self .memory .lateral) (self .config) dt course (hover.estimate wind) state step d n)
+        (record {
+          level = (refl, refl);
+          not-flagged = refl;
+          tilt-kept = refl;
+          capped-cleared = refl;
+          not-restarted = refl;
+          controller-kept = refl;
+          request-kept = refl;
+        })
 
--- such a call from craft to answer
-pub record Level (before : LateralMemory) (rate : RateDivider) (after : Guided) : Type 0 where
-  pub answers-level : Tilts (after .setpoint) zeros
-  pub not-flagged : after .flags .tilt ≡ false
-  pub memory : NotRun before rate (after .craft .memory .lateral)
+    fly-to-not-due : paced self dt .due ≡ NotYet
+        → NotDue (self .memory .lateral) (paced self dt .divider) (fly-to self dt state course descended turn wind)
+    unfolding fly-to held
+    fly-to-not-due d =
+        rw (not-due-is-held (self .memory .lateral) (self .config) dt course (hover.estimate wind) state d)
+        (record {
+          stored = (refl, refl);
+          goes-on = refl;
+          tilt-kept = refl;
+          capped-kept = refl;
+          controller-kept = refl;
+          request-kept = refl;
+        })
 
-fly-to-level : (self : CopterGuidance) (dt : Float) (state : VehicleState) (course : Course) (descended : Descended) (turn : Turn) (wind : HoverWind)
-    (step : Float) → paced (self .memory .lateral) (self .config) dt .due ≡ Step step → T (not (able course state))
-    → Level (self .memory .lateral) (paced (self .memory .lateral) (self .config) dt .divider) (fly-to self dt state course descended turn wind)
-unfolding fly-to levelled
-fly-to-level self dt state course descended turn wind step d n =
-    let before = self .memory .lateral in
-    let kept = levelled-keeps before (paced before (self .config) dt .divider) in
-    rw (not-able-is-level before (self .config) dt course (hover.estimate wind) state step d n)
-    (record { answers-level = (refl, refl); not-flagged = kept .capped-cleared; memory = kept })
+    fly-to-runs : (step : Float) → paced self dt .due ≡ Step step → T (able course state) → Runs (fly-to self dt state course descended turn wind)
+    unfolding fly-to run
+    fly-to-runs step d t =
+        rw (able-runs (self .memory .lateral) (self .config) dt course (hover.estimate wind) state step d t)
+        (record { restarted = refl; stored = (refl, refl) })
 
-pub not-able-call-is-level : (self : CopterGuidance) (dt : Float) (state : VehicleState) (call : Navigated) (step : Float)
-    → paced (self .memory .lateral) (self .config) dt .due ≡ Step step → T (not (able (course call) state))
-    → Level (self .memory .lateral) (paced (self .memory .lateral) (self .config) dt .divider) (navigate self dt state call)
-unfolding waypoint-call land-call
-not-able-call-is-level self dt state (waypoint command) step d n = fly-to-level self dt state (course (waypoint command)) _ _ _ step d n
-not-able-call-is-level self dt state (land command) step d n = fly-to-level self dt state (course (land command)) _ _ _ step d n
+    fly-to-lateral : Bounded (self .memory .lateral .rate) → Accepted dt
+        → LateralCall self dt state course (fly-to self dt state course descended turn wind)
+    unfolding fly-to due
+    fly-to-lateral b a =
+        record {
+          first-due = λ e. rw e;
+          later-due = λ before e. rw e;
+          legal = λ step. step-is-legal (self .memory .lateral .rate) dt (self .config .guidance .«navigation_period_s») step b a;
+          not-due = fly-to-not-due;
+          runs = fly-to-runs;
+          not-run = fly-to-not-run;
+          first-leaves-due =
+              λ e n next period.
+              ap (λ (p : Paced). p .due)
+              (first-call-leaves-due (self .memory .lateral) (self .config) dt course (hover.estimate wind) state e n next period);
+          flags-capped = refl;
+        }
+
+  pub lateral-call : (call : Navigated) → Bounded (self .memory .lateral .rate) → Accepted dt
+      → LateralCall self dt state (course call) (navigate self dt state call)
+  unfolding waypoint-call land-call
+  lateral-call (waypoint command) = fly-to-lateral (course (waypoint command)) _ _ _
+  lateral-call (land command) = fly-to-lateral (course (land command)) _ _ _
 
 -- ---- a call that is due from a reset
 
@@ -180,12 +198,14 @@ module _ (config : CopterGuidanceConfig) (dt : Float) (course : Course) (estimat
   able-from-reset-runs : (self : LateralMemory) → FromReset self → T (able course state)
       → after self ≡ run self config dt (lateral-target course) (lateral-estimate state) (wind-or-zero estimate) (state .«heading_rad»)
   unfolding tilt-toward tilted-when
-  able-from-reset-runs self r t = rw (r .never-ran, first-call-due dt (config .guidance .«navigation_period_s»), is-true (able course state) t)
+  able-from-reset-runs self r t =
+      rw (r .never-ran, first-call-due dt (config .guidance .«navigation_period_s»), able-navigable course state, is-true (able course state) t)
 
   not-able-from-reset : (self : LateralMemory) → FromReset self → T (not (able course state))
       → after self ≡ levelled self NeverRan
   unfolding tilt-toward tilted-when
-  not-able-from-reset self r t = rw (r .never-ran, first-call-due dt (config .guidance .«navigation_period_s»), is-false (able course state) t)
+  not-able-from-reset self r t =
+      rw (r .never-ran, first-call-due dt (config .guidance .«navigation_period_s»), able-navigable course state, is-false (able course state) t)
 
   able-run-same : (a b : LateralMemory) → Agree a b → T (able course state) → after a ≡ after b
   able-run-same a b h t =

@@ -27,7 +27,7 @@ use Rattle.copter.specs.declared.descent.Descended.{Descended}
 use Rattle.copter.specs.declared.tilt.Course.{Course}
 use Rattle.copter.specs.declared.tilt.Tilted.{Tilted}
 use Rattle.copter.specs.declared.guide.Guided.{Guided}
-use Rattle.copter.specs.Memory.{level, upright, idled, fresh}
+use Rattle.copter.specs.Memory.{level, upright, idled}
 use Rattle.copter.specs.Tilt.{tilt-toward}
 use Rattle.copter.specs.Guide.{wind-updated, piloted, fly-to, waypoint-call, land-call, prime, wind-reading}
 use Rattle.copter.proofs.Laws.Calls.{Piloted, waypoint, land, Call, pilot, guide, course}
@@ -214,9 +214,9 @@ call-from-norm self dt state (calls.navigated (land command)) = fly-to-from-norm
 
 -- ---- configure, priming and the wind reading
 
-pub norm-fresh : norm fresh ≡ fresh
-unfolding norm fresh upright quieted
-norm-fresh = rw (norm-of-reset upright (record { never-ran = refl; no-request = refl }))
+pub norm-fresh : (heading : Float) (wind : HoverWind) → norm (fresh-with heading wind) ≡ fresh-with heading wind
+unfolding norm fresh-with upright quieted
+norm-fresh heading wind = rw (norm-of-reset upright (record { never-ran = refl; no-request = refl }))
 
 pub prime-from-norm : (self : CopterGuidance) (state : VehicleState) → prime self state ≡ prime (norm-craft self) state
 unfolding prime norm-craft norm

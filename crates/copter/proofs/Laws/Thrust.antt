@@ -2,7 +2,7 @@
 -- Assumes nothing.
 use mathlib.Core.Path.{_≡_, refl}
 use mathlib.Core.Bool.{Bool, true, false, not, cond, _&&_, _||_}
-use mathlib.Core.Logic.{_⊎_, inl, inr}
+use mathlib.Core.Logic.{inl, inr}
 use lib.Dec.{T}
 use lib.Ieee.{Float, binary32, nan, isNan, fits, neg, ofBits, lt, le}
 use lib.Ieee.Bits.{is-true, is-false}
@@ -27,10 +27,12 @@ use Rattle.copter.specs.declared.config.ThrustLimits.{ThrustLimits}
 use Rattle.copter.specs.declared.config.CopterGuidanceConfig.{CopterGuidanceConfig}
 use Rattle.copter.specs.declared.thrust.Thrust.{Thrust}
 use Rattle.copter.specs.declared.thrust.Held.{Held}
-use Rattle.copter.specs.Config.{among, rule}
+use Rattle.copter.specs.Config.{below-one}
+use Rattle.controllers.specs.Checks.{check-unit-interval}
 use Rattle.copter.specs.Thrust.{clip-thrust, boost, floor-thrust, guarded-by, guarded, hold-piloted, hold-absolute, boosted}
 use Rattle.copter.specs.Guide.{navigated-thrust}
-use Rattle.copter.proofs.Laws.Config.{floor-is-zero-to-below-one}
+use Rattle.copter.specs.Calls.{NanOrFrom}
+use Rattle.copter.proofs.Laws.Config.{below-one-is-zero-to-below-one}
 
 -- ---- what sets the flag
 
@@ -147,10 +149,10 @@ clipped-in-unit : (thrust : Float) → InUnit (clip-thrust thrust .value)
 unfolding clip-thrust
 clipped-in-unit thrust = saturate-throttle-in-unit thrust
 
-floored-in-unit : (thrust least : Float) → InUnit thrust → T (rule 38 least) → InUnit (floor-thrust thrust least .value)
+floored-in-unit : (thrust least : Float) → InUnit thrust → T (below-one least) → InUnit (floor-thrust thrust least .value)
 unfolding floor-thrust
 floored-in-unit thrust least u r =
-    let floor = floor-is-zero-to-below-one least .0 r in
+    let floor = below-one-is-zero-to-below-one least .0 r in
     cond-holds (λ (t : Thrust). InUnit (t .value)) (lt thrust least) (λ _. (floor .0, lt→le least one (floor .1))) (λ _. u)
 
 guarded-in-unit : (thrust : Thrust) (climb : Float) (limits : ThrustLimits) → InUnit (thrust .value) → InUnit (guarded thrust climb limits .value)
@@ -159,7 +161,7 @@ guarded-in-unit thrust climb limits u =
     cond-holds (λ (g : SinkGuard). InUnit (guarded-by g thrust .value)) (sinks-past climb limits) (λ _. saturate-throttle-in-unit _) (λ _. u)
 
 piloted-in-unit : (throttle : Float) (thrust : Thrust) (climb idle : Float) (limits : ThrustLimits)
-    → InUnit (thrust .value) → T (rule 38 (limits .«min_thrust»)) → InUnit (hold-piloted throttle thrust climb idle limits .value)
+    → InUnit (thrust .value) → T (below-one (limits .«min_thrust»)) → InUnit (hold-piloted throttle thrust climb idle limits .value)
 unfolding hold-piloted
 piloted-in-unit throttle thrust climb idle limits u r =
     cond-holds (λ (h : Held). InUnit (h .value)) (lt idle throttle)
@@ -167,22 +169,19 @@ piloted-in-unit throttle thrust climb idle limits u r =
     (floored-in-unit (thrust .value) (limits .«min_thrust») u r))
     (λ _. u)
 
-pub stick-thrust-in-unit : (throttle ceiling climb idle : Float) (attitude : Quaternion) (limits : ThrustLimits) → T (rule 38 (limits .«min_thrust»))
+pub stick-thrust-in-unit : (throttle ceiling climb idle : Float) (attitude : Quaternion) (limits : ThrustLimits) → T (below-one (limits .«min_thrust»))
     → InUnit (hold-piloted throttle (boosted throttle attitude ceiling) climb idle limits .value)
 unfolding boosted
 stick-thrust-in-unit throttle ceiling climb idle attitude limits =
     piloted-in-unit throttle (boosted throttle attitude ceiling) climb idle limits (clipped-in-unit (boost throttle attitude ceiling .value))
 
-pub absolute-thrust-in-unit : (thrust climb : Float) (config : CopterGuidanceConfig) → T (rule 38 (config .thrust .«min_thrust»))
+pub absolute-thrust-in-unit : (thrust climb : Float) (config : CopterGuidanceConfig) → T (below-one (config .thrust .«min_thrust»))
     → InUnit (hold-absolute thrust climb config .value)
 unfolding hold-absolute
 absolute-thrust-in-unit thrust climb config =
     piloted-in-unit thrust (clip-thrust thrust) climb (config .guidance .«idle_throttle») (config .thrust) (clipped-in-unit thrust)
 
 -- ---- a navigated thrust is a NaN or from the floor to 1
-
-abbrev pub NanOrFrom : Float → Float → Type 0
-NanOrFrom least x = (x ≡ nan) ⊎ (T (le least x) × T (le x one))
 
 floor-of-nan : (least : Float) → floor-thrust nan least .value ≡ nan
 unfolding floor-thrust
@@ -197,17 +196,16 @@ floored-from-floor thrust least u h =
     (λ _. (le-refl least n, lt→le least one h))
     (λ k. (rw (le-not-lt least thrust n (le-numbers thrust one (u .1) .0)) k, u .1))
 
-pub navigated-nan-or-from-floor : (linear least : Float) → NanOrUnit linear → T (rule 38 least)
+pub navigated-nan-or-from-floor : (linear least : Float) → NanOrUnit linear → T (below-one least)
     → NanOrFrom least (navigated-thrust linear least .value)
 unfolding navigated-thrust
 navigated-nan-or-from-floor linear least (inl e) r = inl (rw (e, floor-of-nan least))
-navigated-nan-or-from-floor linear least (inr u) r = inr (floored-from-floor linear least u (floor-is-zero-to-below-one least .0 r .1))
+navigated-nan-or-from-floor linear least (inr u) r = inr (floored-from-floor linear least u (below-one-is-zero-to-below-one least .0 r .1))
 
 -- the altitude loop's thrust is as asked, where the hover thrust keeps its rule
 pub controlled-nan-or-from-floor : (self : AltitudeController) (config : AltitudeControllerConfig) (dt : Float) (target : AltitudeTarget)
     (estimate : AltitudeEstimate) (least : Float)
-    → T (rule 5 (config .«hover_thrust»)) → T (rule 38 least)
+    → T (check-unit-interval (config .«hover_thrust»)) → T (below-one least)
     → NanOrFrom least (navigated-thrust (control self config dt target estimate .thrust) least .value)
-unfolding rule among
 controlled-nan-or-from-floor self config dt target estimate least h r =
     navigated-nan-or-from-floor (control self config dt target estimate .thrust) least (thrust-nan-or-unit self config dt target estimate h) r

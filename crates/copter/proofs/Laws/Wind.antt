@@ -1,7 +1,7 @@
 -- The wind of whole calls: every call updates it alike, and two configurations that document 01 accepts lead to a wind that is no number. Assumes
 -- nothing.
 use mathlib.Core.Path.{_≡_, refl, _∙_, ap}
-use mathlib.Core.Bool.{true, false}
+use mathlib.Core.Bool.{false}
 use lib.Ieee.{Float, nan, inf, ofBits, ofInt, round, isNan, neg, add, sub, mul, div, lt, le}
 use Rattle.floats.specs.Ops.{f32}
 use Rattle.floats.specs.Compare.{abs}
@@ -25,14 +25,13 @@ use Rattle.heading.specs.HoverWind as hover
 use Rattle.heading.specs.declared.hover_wind.HoverWind.{HoverWind}
 use Rattle.copter.specs.declared.config.CopterGuidanceConfig.{CopterGuidanceConfig}
 use Rattle.copter.specs.declared.memory.CopterGuidance.{CopterGuidance}
-use Rattle.copter.specs.Config.{among, rule, below-one, above-descending, up-to-pi}
-use Rattle.copter.specs.Config.{default-altitude, default-lateral, default-heading, default-guidance, default-thrust}
+use Rattle.copter.specs.Config.{below-one, above-descending, up-to-pi, field-count, rule, lowest, default-config, fields-of}
 use Rattle.copter.specs.Memory.{fresh}
-use Rattle.copter.specs.Guide.{wind-updated, piloted, attitude-call, absolute-attitude-call, absolute-rate-call, fly-to, waypoint-call, land-call, new-craft, prime, wind-reading}
+use Rattle.copter.specs.Guide.{wind-updated, piloted, attitude-call, absolute-attitude-call, absolute-rate-call, fly-to, waypoint-call, land-call}
+use Rattle.copter.specs.Guide.{new-craft, prime, wind-reading}
 use Rattle.controllers.specs.Checks.{check-limit, check-positive, check-unit-interval, check-tilt}
 use Rattle.copter.proofs.Laws.Calls.{attitude, absolute-attitude, absolute-rate, waypoint, land, Call, guide}
 use Rattle.copter.proofs.Laws.Calls as calls
-use Rattle.copter.proofs.Laws.Config.{fields, all-kept}
 
 -- ---- every call updates the wind alike, and keeps the configuration
 
@@ -58,7 +57,8 @@ guide-keeps-config self dt state (calls.navigated (land command)) = refl
 -- the defaults, but for the wind's fields
 unfoldable pub with-wind : WindConfig → CopterGuidanceConfig
 with-wind wind =
-    record { altitude = default-altitude; lateral = default-lateral; guidance = default-guidance; thrust = default-thrust; wind = wind }
+    let config = default-config in
+    record { altitude = config .altitude; lateral = config .lateral; guidance = config .guidance; thrust = config .thrust; wind = wind }
 
 -- momentum drag of 0.3 on both axes, and no noise
 unfoldable pub noiseless : WindConfig
@@ -86,9 +86,9 @@ gateless =
       «max_axial_speed_mps» = one;
     }
 
--- each of the 50 fields keeps its rule
-pub both-accepted : (all-kept 1 (fields (with-wind noiseless)) ≡ true) × (all-kept 1 (fields (with-wind gateless)) ≡ true)
-unfolding fields with-wind noiseless gateless default-altitude default-lateral default-heading default-guidance default-thrust all-kept rule among
+-- no field breaks its rule
+pub both-accepted : (lowest (fields-of (with-wind noiseless)) 1 field-count ≡ 51) × (lowest (fields-of (with-wind gateless)) 1 field-count ≡ 51)
+unfolding fields-of with-wind noiseless gateless default-config lowest rule
     check-limit check-positive check-unit-interval check-tilt below-one above-descending up-to-pi ofBits lt le
 both-accepted = (refl, refl)
 
@@ -145,14 +145,14 @@ unfolding noiseless gateless update hover.prime hover.fresh airborne above latch
 computed = (refl, (_, refl), (_, refl))
 
 primed-memory : (wind : WindConfig) → primed wind .memory .wind ≡ primed-wind
-unfolding prime new-craft fresh with-wind default-guidance
+unfolding prime new-craft fresh with-wind default-config
 primed-memory wind = refl
 
 -- the wind memory after a call, from the one before it
 module _ (wind : WindConfig) (self : CopterGuidance) (dt : Float) (state : VehicleState) (call : Call) where
   next-wind : (before : HoverWind) → self .config ≡ with-wind wind → self .memory .wind ≡ before
       → guide self dt state call .craft .memory .wind ≡ update before dt wind one state
-  unfolding wind-updated with-wind default-guidance
+  unfolding wind-updated with-wind default-config
   next-wind before e m = guide-updates-wind self dt state call ∙ rw (e, m)
 
 -- the velocity and the covariance, after any call one second long

@@ -14,7 +14,6 @@ use Rattle.flight_c.proofs.tarragonhoe_fly.Tie as tie
 
 from-unconfigured : (f : Flown) (after : List ℕ) (craft : Craft) (bytes buffer : List ℕ) → flown f after ≡ fly craft bytes true buffer → craft ≡ unconfigured
     → (f .written ≡ fly unconfigured bytes true buffer .written) × (after ≡ fly unconfigured bytes true buffer .buffer)
-unfolding flown
 from-unconfigured f after craft bytes buffer promised new =
     let same = promised ∙ ap (λ (c : Craft). fly c bytes true buffer) new in
     (ap (λ (f : Flight). f .written) same, ap (λ (f : Flight). f .buffer) same)

@@ -1,28 +1,23 @@
 -- Wind memory: what holds of it from a fresh one on, what a priming leaves of it, and when an update leaves all of it. Assumes nothing.
 use mathlib.Core.Path.{_≡_, refl, _∙_}
 use mathlib.Core.Bool.{Bool, true, false, cond}
-use lib.Dec.{T}
 use lib.Ieee.{Float, lt}
 use lib.Ieee.Scale.{finite}
 use Rattle.floats.specs.Ops.{_⊕_}
 use Rattle.wind.specs.declared.state.VehicleState.{VehicleState}
 use Rattle.wind.specs.declared.drag.WindConfig.{WindConfig}
-use Rattle.heading.specs.declared.hover_wind.GroundAltitude.{GroundAltitude}
 use Rattle.heading.specs.declared.hover_wind.GroundAltitude.the-variants.{Nothing, Metres}
 use Rattle.heading.specs.declared.hover_wind.HoverWind.{HoverWind}
 use Rattle.wind.specs.Drag.{is-on}
 use Rattle.wind.specs.Wind as wind
-use Rattle.heading.specs.HoverWind.{latched, above, airborne, fresh, prime, update}
+use Rattle.heading.specs.HoverWind.{FiniteGround, latched, above, airborne, fresh, prime, update}
 use Rattle.wind.proofs.Laws.Sample.{either-way, Unusable, unusable-skipped}
-use Rattle.wind.proofs.Laws.Window.{Accepted, OpenWindow, fresh-open, update-open}
+use Rattle.wind.specs.Window.{Accepted, OpenWindow}
+use Rattle.wind.proofs.Laws.Window.{fresh-open, update-open}
 
 -- ---- what holds of wind memory
 
--- none, or a finite height
-abbrev pub FiniteGround : GroundAltitude → Type 0
-FiniteGround Nothing = Unit {0}
-FiniteGround (Metres height) = T (finite height)
-
+-- an open window, and ground that is none or a finite height
 pub record Sound (self : HoverWind) : Type 0 where
   pub window : OpenWindow (self .estimator .window)
   pub ground : FiniteGround (self .«ground_altitude_m»)

@@ -4,7 +4,6 @@ use mathlib.Core.Bool.{true, false}
 use lib.Ieee.{Float}
 use lib.Ieee.Scale.{finite}
 use Rattle.math.specs.Math.{zero, all-finite}
-use Rattle.math.specs.Vectors.{minus}
 use Rattle.math.specs.declared.vectors.Vec2.{Vec2}
 use Rattle.wind.specs.declared.state.VehicleState.{VehicleState}
 use Rattle.wind.specs.declared.window.Filter.{Filter}
@@ -21,7 +20,8 @@ use Rattle.heading.specs.declared.leg_heading.Turn.{Turn}
 use Rattle.heading.specs.declared.leg_heading.Bearing.{Bearing}
 use Rattle.heading.specs.declared.leg_heading.Yielded.{Yielded}
 use Rattle.heading.specs.Equality.{same-vector}
-use Rattle.heading.specs.LegHeading.{fresh, cleared, with-wind, on-leg, leg-bearing, new-leg, bearing-of, bearing, may-yield, stuck-for, counted, yielded, along-leg, wind-or-leg, here-of, wind-turn, uncommanded, finite-angle, target}
+use Rattle.heading.specs.LegHeading.{New, started, fresh, cleared, with-wind, on-leg, new-leg, bearing-of, bearing, may-yield, stuck-for, counted}
+use Rattle.heading.specs.LegHeading.{yielded, along-leg, wind-or-leg, here-of, wind-turn, uncommanded, finite-angle, target}
 use Rattle.heading.proofs.Laws.Equality.{vector-numbers, vector-same-itself, nan-vector-differs}
 
 -- ---- which positions are on a leg
@@ -40,11 +40,6 @@ own-position-on-leg leg e = same-position-on-leg leg (leg .«to_m») (vector-sam
 
 -- ---- which positions are new
 
--- With no leg remembered every position is new.
-abbrev pub New : LegMemory → Vec2 → Type 0
-New legs.Nothing position = Unit {0}
-New (legs.Flown leg) position = on-leg leg position ≡ false
-
 pub new-without-leg : (self : LegHeading) (position : Vec2) → self .leg ≡ legs.Nothing → New (self .leg) position
 new-without-leg self position e = rw e tt
 
@@ -59,10 +54,6 @@ bearing-of-new : (leg : LegMemory) (self : LegHeading) (config : HeadingConfig) 
 unfolding bearing-of
 bearing-of-new legs.Nothing self config position here n = refl
 bearing-of-new (legs.Flown leg) self config position here n = rw n
-
--- the leg that starts at a new position
-abbrev pub started : HeadingConfig → Vec2 → Vec2 → Leg
-started config position here = record { «to_m» = position; «bearing_rad» = leg-bearing config (minus position here) }
 
 module _ (self : LegHeading) (config : HeadingConfig) (position here : Vec2) where
   pub bearing-new : New (self .leg) position → bearing self config position here ≡ new-leg self config position here

@@ -1,12 +1,13 @@
 -- Yielding: the yield count is a sum of time steps while the heading is stuck and 0 when it is not, yielding starts with the first count above the
 -- yield time, and it lasts until the position changes. Assumes nothing.
-use mathlib.Core.Path.{_≡_, refl}
-use mathlib.Core.Bool.{Bool, true, false}
+use mathlib.Core.Path.{_≡_, refl, sym}
+use mathlib.Core.Bool.{Bool, true, false, cond, _&&_}
 use mathlib.Core.List.{List, [], _∷_, foldl}
 use lib.Ieee.{Float, lt}
 use lib.Ieee.Scale.{finite}
-use Rattle.floats.specs.Ops.{_⊕_}
-use Rattle.math.specs.Math.{zero, all-finite}
+use Rattle.floats.specs.Ops.{_⊕_, _⊖_, _⊗_}
+use Rattle.floats.specs.Compare.{abs, signum}
+use Rattle.math.specs.Math.{zero, all-finite, wrap-angle}
 use Rattle.wind.specs.declared.state.VehicleState.{VehicleState}
 use Rattle.wind.specs.declared.window.Filter.{Filter}
 use Rattle.altitude.proofs.Laws.Feed.{kept-by-calls}
@@ -17,9 +18,9 @@ use Rattle.heading.specs.declared.wind_heading.WindHeading.{WindHeading}
 use Rattle.heading.specs.declared.leg_heading.Leg.{Leg}
 use Rattle.heading.specs.declared.leg_heading.LegMemory.the-variants as legs
 use Rattle.heading.specs.declared.leg_heading.LegHeading.{LegHeading}
-use Rattle.heading.specs.LegHeading.{with-wind, on-leg, may-yield, stuck, stuck-for, counted, yielded, along-leg, wind-or-leg, here-of, station-turn}
+use Rattle.heading.specs.LegHeading.{New, started, with-wind, on-leg, may-yield, stuck, stuck-for, counted, yielded, along-leg, wind-or-leg, here-of, station-turn}
 use Rattle.heading.proofs.Laws.WindHeading.{off-moves-nothing}
-use Rattle.heading.proofs.Laws.Leg.{New, started, bearing-new, bearing-on-leg, new-leg-starts, Call, Uncommanded, called, leg-of, wind-of, call-uncommanded, call-on-leg}
+use Rattle.heading.proofs.Laws.Leg.{bearing-new, bearing-on-leg, new-leg-starts, Call, Uncommanded, called, leg-of, wind-of, call-uncommanded, call-on-leg}
 
 -- ---- the count in one call
 
@@ -27,6 +28,15 @@ module _ (count dt : Float) (config : HeadingConfig) (heading : Float) (state : 
   pub stuck-adds-time : stuck config heading state ≡ true → stuck-for count dt config heading state ≡ count ⊕ dt
   unfolding stuck-for
   stuck-adds-time e = rw e
+
+  -- Stuck is off the target by more than the yield angle, and turning toward it slower than the yield rate.
+  pub counts-while-off-and-slow :
+      let error = wrap-angle (heading ⊖ state .«heading_rad») in
+      let off = lt (config .«heading_yield_rad») (abs error) in
+      let slow = lt (signum error ⊗ state .«angular_velocity_z_radps») (config .«heading_yield_rate_radps») in
+      stuck-for count dt config heading state ≡ cond (off && slow) (count ⊕ dt) zero
+  unfolding stuck-for stuck
+  counts-while-off-and-slow = refl
 
   pub free-counts-zero : stuck config heading state ≡ false → stuck-for count dt config heading state ≡ zero
   unfolding stuck-for
@@ -46,6 +56,15 @@ module _ (m : LegHeading) (dt : Float) (config : HeadingConfig) (heading : Float
       → yielded m dt config heading state ≡ counted m (stuck-for (m .«stuck_s») dt config heading state) config
   unfolding yielded
   yield-counts e y = rw (e, y)
+
+  -- that it yields is what is remembered
+  yields-as-remembered : may-yield config state ≡ true
+      → yielded m dt config heading state .yields ≡ yielded m dt config heading state .memory .yielding
+  yields-as-remembered e = go (m .yielding) refl
+    where
+      go : (b : Bool) → m .yielding ≡ b → yielded m dt config heading state .yields ≡ yielded m dt config heading state .memory .yielding
+      go true y = rw (yielding-yields e y) (sym y)
+      go false y = unfold counted in rw (yield-counts e y)
 
   yielding-stays : m .yielding ≡ true → yielded m dt config heading state .memory .yielding ≡ true
   yielding-stays y = go (may-yield config state) refl
@@ -87,6 +106,15 @@ module _ (config : HeadingConfig) (self : LegHeading) (call : Call) (none : Unco
       unfolding along-leg
       yielding-answers-own-heading y = rw (call-along-leg, yielding-yields (handed config self call) (call .dt) config (call .heading) (call .state) may y)
 
+      -- so is the answer where this call's count starts the yielding
+      pub yields-own-heading : called config self call .memory .yielding ≡ true → called config self call .«heading_rad» ≡ call .state .«heading_rad»
+      unfolding along-leg
+      yields-own-heading y =
+          let m = handed config self call in
+          let yields = yields-as-remembered m (call .dt) config (call .heading) (call .state) may in
+          let y' : yielded m (call .dt) config (call .heading) (call .state) .memory .yielding ≡ true = rw call-along-leg at y in
+          rw (call-along-leg, yields, y')
+
       pub call-counts : handed config self call .yielding ≡ false
           → called config self call .memory
           ≡ with-count config (handed config self call) (stuck-for (handed config self call .«stuck_s») (call .dt) config (call .heading) (call .state))
@@ -126,7 +154,8 @@ module _ (config : HeadingConfig) (leg : Leg) where
         let call = next .call in
         let stays : called config self call .memory .yielding ≡ true =
         rw (call-uncommanded config self call (next .uncommanded))
-        (turn-keeps-yielding (wind-of config self call .«target_rad») (handed config self call) (call .dt) config (call .heading) (leg-of config self call .«bearing_rad») (call .state)
+        (turn-keeps-yielding (wind-of config self call .«target_rad») (handed config self call) (call .dt) config (call .heading)
+        (leg-of config self call .«bearing_rad») (call .state)
         handed-yielding) in
         record { flown = call-on-leg config self call (next .uncommanded) leg (y .flown) (next .on); yields = stays }
 

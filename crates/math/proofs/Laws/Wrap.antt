@@ -1,5 +1,6 @@
--- A wrapped finite angle is at least -π and below π, and one that is not finite wraps to a NaN. Assumes nothing.
-use mathlib.Core.Path.{_≡_, refl}
+-- A wrapped finite angle is at least -π and below π and stays as it is when it is wrapped again, and one that is not finite wraps to a NaN.
+-- Assumes nothing.
+use mathlib.Core.Path.{_≡_, refl, ap, _∙_}
 use mathlib.Core.Bool.{Bool, true, false, not}
 use mathlib.Core.Logic.{_⊎_, inl, inr, ⊎-elim}
 use Prim.Native.Nat.{ℕ, zero as zeroℕ, suc, _*_, _%_, _^_, _≤_, _<_}
@@ -9,17 +10,18 @@ use lib.Dec.{T, not-T, leb, leb→le, nleb→lt, lit<}
 use lib.Pow.{pow-pos}
 use lib.Ieee.{Float, nan, inf, fin, binary32, round, neg, add, sub, rem, lt, le, fits, isNan, ofBits}
 use lib.Ieee.Bits.{is-true, is-false}
-use lib.Ieee.Fits.{add-fits}
-use lib.Ieee.Positive.{num, den, den-pos}
+use lib.Ieee.Fits.{cond-fits, neg-fits, add-fits, sub-fits, rem-fits}
+use lib.Ieee.Positive.{num, den, den-pos, positive, positive-finite, between}
 use lib.Ieee.Scale.{finite}
 use Rattle.floats.specs.Ops.{f32, _⊕_, _⊖_}
 use Rattle.floats.specs.Compare.{abs, isNegative}
-use Rattle.floats.proofs.Laws.Order.{finite→number, le-or-lt, lt→le, lt-excludes, le-lt-trans, finite-between}
+use Rattle.floats.proofs.Laws.Order.{finite→number, le-numbers, le-or-lt, lt→le, lt-excludes, le-trans, le-lt-trans, finite-between, neg-neg, neg-le}
 use Rattle.floats.proofs.Laws.Round.{AtMost, Less, fractions-of-lt, own-fraction, le-of-fractions, round-zero, round-nonneg, round-at-most, round-at-least, round-below}
 use Rattle.floats.proofs.Laws.Fractions.{rem-rounds}
 use Rattle.floats.proofs.Laws.Grid.{large-on-grid}
-use Rattle.floats.proofs.Laws.Remainder.{rem-of-smaller}
-use Rattle.floats.proofs.Laws.Sum.{add-mono, sub-mono, add-finite, add-finite-number, number-sub}
+use Rattle.floats.proofs.Laws.Remainder.{rem-of-smaller, rem-inside, above-opposite}
+use Rattle.floats.proofs.Laws.Sterbenz.{sterbenz-add-back, sterbenz-sub-back}
+use Rattle.floats.proofs.Laws.Sum.{add-mono, sub-mono, add-finite, add-finite-number, number-add, number-sub}
 use Rattle.math.specs.Math.{zero, pi, tau, rem-euclid, wrap-angle}
 use Rattle.math.proofs.Laws.Largest.{le-largest, largest}
 
@@ -126,7 +128,8 @@ next-below-minus-pi : (x : Float) → T (fits binary32 x) → T (finite x) → T
 unfolding neg ofBits
 next-below-minus-pi x p q l =
     let s = isNegative x in
-    let h = past-minus-pi s (num x) (den x) (fractions-of-lt x (neg pi) s (num x) (den x) true 13176795 (2 ^ 22) (den-pos x) (pow-pos 22) (own-fraction x q) (refl, refl) l) in
+    let h = past-minus-pi s (num x) (den x) (fractions-of-lt x (neg pi) s (num x) (den x) true 13176795 (2 ^ 22) (den-pos x) (pow-pos 22)
+    (own-fraction x q) (refl, refl) l) in
     let g = large-on-grid binary32 x 22 p q (omega arith) in
     le-of-fractions x below-minus-pi s (g .0) (2 ^ 22) true 13176796 (2 ^ 22) (pow-pos 22) (pow-pos 22) (g .1) (refl, refl)
     (next-past-minus-pi s (g .0) (fractions-of-lt x (neg pi) s (g .0) (2 ^ 22) true 13176795 (2 ^ 22) (pow-pos 22) (pow-pos 22) (g .1) (refl, refl) l))
@@ -146,16 +149,24 @@ shifted-negative x p q l =
 
 -- ---- the wrapped angle
 
+shifted-rem-range : (x : Float) → T (fits binary32 x) → T (finite x)
+    → T (le zero (rem-euclid (x ⊕ pi) tau)) × T (le (rem-euclid (x ⊕ pi) tau) below-tau)
+shifted-rem-range x p q = rem-euclid-range (x ⊕ pi) (add-fits binary32 x pi) (shifted-finite x p q) (shifted-negative x p q)
+
+-- a remainder less π
+less-pi-range : (r b : Float) → T (le zero r) → T (le r b) → T (le (neg pi) (r ⊖ pi)) × T (le (r ⊖ pi) (b ⊖ pi))
+unfolding le sub add neg isNan ofBits
+less-pi-range r b h k =
+    let m = number-sub binary32 r pi (le-numbers zero r h .1) tt in
+    (sub-mono binary32 zero r pi pi h tt tt m, sub-mono binary32 r b pi pi k tt m (number-sub binary32 b pi (le-numbers r b k .1) tt))
+
 pub wrap-range : (x : Float) → T (fits binary32 x) → T (finite x) → T (le (neg pi) (wrap-angle x)) × T (lt (wrap-angle x) pi)
-unfolding wrap-angle le sub add neg isNan ofBits
+unfolding wrap-angle le sub add ofBits
 wrap-range x p q =
-    let y = x ⊕ pi in
-    let r = rem-euclid y tau in
-    let h = rem-euclid-range y (add-fits binary32 x pi) (shifted-finite x p q) (shifted-negative x p q) in
-    let m = number-sub binary32 r pi (finite→number r (finite-between zero r below-tau tt tt (h .0) (h .1))) tt in (
-      sub-mono binary32 zero r pi pi (h .0) tt tt m,
-      le-lt-trans (r ⊖ pi) (below-tau ⊖ pi) pi (sub-mono binary32 r below-tau pi pi (h .1) tt m tt) tt,
-    )
+    let r = rem-euclid (x ⊕ pi) tau in
+    let h = shifted-rem-range x p q in
+    let k = less-pi-range r below-tau (h .0) (h .1) in
+    (k .0, le-lt-trans (r ⊖ pi) (below-tau ⊖ pi) pi (k .1) tt)
 
 pub wrap-finite : (x : Float) → T (fits binary32 x) → T (finite x) → T (finite (wrap-angle x))
 unfolding neg ofBits
@@ -170,3 +181,75 @@ unfolding wrap-angle rem-euclid rem add sub lt ofBits
 wrap-not-finite nan h = refl
 wrap-not-finite (inf s) h = refl
 wrap-not-finite (fin s m e) h = absurd h
+
+-- ---- wrapped twice
+
+pub rem-euclid-inside : (v d : Float) → T (fits binary32 v) → T (le zero v) → T (lt v d) → rem-euclid v d ≡ v
+unfolding rem-euclid ofBits
+rem-euclid-inside v d p h l =
+    rw (rem-inside binary32 v d p (above-opposite v d h l) l, is-false (lt v zero) (not-T (lt v zero) (λ n. lt-excludes v zero n h)))
+
+-- the remainder less π and plus π again
+back-in-range : (r : Float) → T (le zero r) → T (le r below-tau) → T (le zero (r ⊖ pi ⊕ pi)) × T (le (r ⊖ pi ⊕ pi) below-tau)
+unfolding le sub add neg isNan ofBits
+back-in-range r h k =
+    let g = less-pi-range r below-tau h k in
+    let m = number-add binary32 (r ⊖ pi) pi (le-numbers (neg pi) (r ⊖ pi) (g .0) .1) tt in
+    (add-mono binary32 (neg pi) (r ⊖ pi) pi pi (g .0) tt tt m, add-mono binary32 (r ⊖ pi) (below-tau ⊖ pi) pi pi (g .1) tt m tt)
+
+-- π/2
+abbrev half-pi : Float
+half-pi = f32 0x3FC9_0FDB
+
+-- Neither of π and a value from π/2 to 2π is more than twice the other.
+module _ (v : Float) (p : T (fits binary32 v)) (h : T (le half-pi v)) (k : T (le v below-tau)) where
+  v-positive : T (positive v)
+  unfolding ofBits
+  v-positive = between half-pi v below-tau tt tt h k
+
+  at-most-twice-pi : T (le v (pi ⊕ pi))
+  unfolding le add ofBits
+  at-most-twice-pi = le-trans v below-tau tau k tt
+
+  pi-at-most-twice : T (le pi (v ⊕ v))
+  unfolding le add isNan ofBits
+  pi-at-most-twice = let f = positive-finite v v-positive in add-mono binary32 half-pi v half-pi v h h tt (add-finite-number binary32 v v f f)
+
+  difference-back : v ⊖ pi ⊕ pi ≡ v
+  unfolding fits ofBits
+  difference-back = sterbenz-sub-back binary32 v pi p tt v-positive tt at-most-twice-pi pi-at-most-twice
+
+  sum-back : neg v ⊕ pi ⊖ pi ≡ neg v
+  unfolding fits ofBits
+  sum-back = sterbenz-add-back binary32 v pi p tt v-positive tt at-most-twice-pi pi-at-most-twice
+
+from-half-pi : (r : Float) → T (fits binary32 r) → T (le half-pi r) → T (le r below-tau) → r ⊖ pi ⊕ pi ⊖ pi ≡ r ⊖ pi
+from-half-pi r p h k = rw (difference-back r p h k)
+
+-- A smaller remainder less π is an angle from -π to -π/2, whether it was rounded or not.
+below-half-pi : (r : Float) → T (le zero r) → T (le r half-pi) → r ⊖ pi ⊕ pi ⊖ pi ≡ r ⊖ pi
+unfolding le sub add neg isNan ofBits
+below-half-pi r h k =
+    let y = r ⊖ pi in
+    let g = less-pi-range r half-pi h k in
+    let most = le-trans (neg y) pi below-tau (neg-le (neg pi) y (g .0)) tt in
+    rw neg-neg at (sum-back (neg y) (neg-fits binary32 y (sub-fits binary32 r pi)) (neg-le y (neg half-pi) (g .1)) most)
+
+rem-euclid-fits : (x y : Float) → T (fits binary32 x) → T (fits binary32 (rem-euclid x y))
+unfolding rem-euclid
+rem-euclid-fits x y p =
+    let r = rem binary32 x y in
+    cond-fits binary32 (lt r zero) (r ⊕ y) r (add-fits binary32 r y) (rem-fits binary32 x y p)
+
+pub wrap-twice : (x : Float) → T (fits binary32 x) → T (finite x) → wrap-angle (wrap-angle x) ≡ wrap-angle x
+unfolding wrap-angle lt isNan ofBits
+wrap-twice x p q =
+    let r = rem-euclid (x ⊕ pi) tau in
+    let z = r ⊖ pi ⊕ pi in
+    let h = shifted-rem-range x p q in
+    let g = back-in-range r (h .0) (h .1) in
+    ap (λ (v : Float). v ⊖ pi) (rem-euclid-inside z tau (add-fits binary32 (r ⊖ pi) pi) (g .0) (le-lt-trans z below-tau tau (g .1) tt))
+    ∙ ⊎-elim
+    (λ l. from-half-pi r (rem-euclid-fits (x ⊕ pi) tau (add-fits binary32 x pi)) l (h .1))
+    (λ l. below-half-pi r (h .0) (lt→le r half-pi l))
+    (le-or-lt half-pi r tt (le-numbers zero r (h .0) .1))

@@ -5,8 +5,9 @@ use lib.Dec.{T}
 use lib.Ieee.{Float, binary32, neg, lt, le, fits, isNan, ofBits}
 use Rattle.floats.specs.Ops.{_⊕_}
 use Rattle.floats.proofs.Laws.Order.{number, lt-numbers, lt-not-le}
-use Rattle.floats.proofs.Laws.Remainder.{rem-inside, above-opposite, below-divisor}
+use Rattle.floats.proofs.Laws.Remainder.{rem-inside, below-divisor}
 use Rattle.math.specs.Math.{zero, rem-euclid}
+use Rattle.math.proofs.Laws.Wrap.{rem-euclid-inside}
 use Rattle.math.proofs.rem_euclid.Statement.{statement}
 use Rattle.math.proofs.rem_euclid.Tie as tie
 
@@ -18,12 +19,6 @@ negative-by : (v : Float) → T (number v) → lt v zero ≡ not (le zero v)
 unfolding isNan ofBits
 negative-by v n = lt-not-le v zero n tt
 
-not-negative : (v d : Float) → T (fits binary32 v) → le zero v ≡ true → lt v d ≡ true → v ≡ rem-euclid v d
-unfolding rem-euclid ofBits
-not-negative v d p h k =
-    let l = holds k in
-    rw (rem-inside binary32 v d p (above-opposite v d (holds h) l) l, negative-by v (lt-numbers v d l .0), h)
-
 negative : (v d : Float) → T (fits binary32 v) → le zero v ≡ false → lt (neg d) v ≡ true → v ⊕ d ≡ rem-euclid v d
 unfolding rem-euclid ofBits
 negative v d p h k =
@@ -34,7 +29,7 @@ negative v d p h k =
 returns : tie.Need-returns
 returns c =
     let start = c .before .before in
-    not-negative (start .args .value) (start .args .divisor) (holds (start .good .0 .1)) (c .before .if1 .taken) (c .if2 .taken)
+    sym (rem-euclid-inside (start .args .value) (start .args .divisor) (holds (start .good .0 .1)) (holds (c .before .if1 .taken)) (holds (c .if2 .taken)))
 
 returns-2 : tie.Need-returns-2
 returns-2 c =

@@ -1,12 +1,14 @@
--- What a record takes and writes. Where the buffer has room, its answer, its craft and the bytes that it takes come of the craft and the bytes alone. It
--- takes no more bytes than there are, at least one unless it ends the flight, and writes 25 bytes at most. Assumes nothing.
-use Prim.Native.Nat.{ℕ, suc, _-_, _≤_}
+-- What a record comes to. Where the buffer has room, its answer, its craft and the bytes that it takes come of the craft and the bytes alone. It takes
+-- no more bytes than there are, at least one unless it ends the flight, and writes 25 bytes at most; what follows a whole record does not change it.
+-- Assumes nothing.
+use Prim.Native.Nat.{ℕ, zero, suc, _-_, _≤_}
 use mathlib.Core.Path.{_≡_, refl, sym, ap, _∙_}
-use mathlib.Core.Bool.{Bool, true, false, not, cond, true≢false}
+use mathlib.Core.Bool.{Bool, true, false, not, cond, _&&_, _||_, true≢false}
 use mathlib.Core.List.{List, _++_}
+use mathlib.Core.Option.{none}
 use native.Mathlib.Omega.{arith}
-use borrow.Author.Tests.{ltb-false, eqb-false, le-ltb, le-leb, ne-eqb}
-use lib.Dec.{leb, ltb, eqb}
+use borrow.Author.Tests.{ltb-false, eqb-false, le-ltb, le-leb, lt-leb, ne-eqb}
+use lib.Dec.{T, leb, ltb, eqb}
 use lib.ListN.{length, take, drop, length-append, length-drop, List·getD-append}
 use lib.Seq.{take-append-le, drop-append-le, take-append-seam}
 use lib.Ieee.{Float}
@@ -14,64 +16,44 @@ use Rattle.wind.specs.declared.state.VehicleState.{VehicleState}
 use Rattle.wind.specs.declared.window.Filter.{Filter}
 use Rattle.wind.specs.declared.window.Filter.the-variants as filters
 use Rattle.copter.specs.Guide.{guide-call, wind-reading}
-use Rattle.copter.specs.declared.commands.Command.{Command}
-use Rattle.copter.specs.declared.memory.CopterGuidance.{CopterGuidance}
+use Rattle.copter.specs.declared.commands.Flags.{Flags}
 use Rattle.copter.specs.declared.commands.Setpoint.{Setpoint}
 use Rattle.copter.specs.declared.commands.Setpoint.the-variants as setpoints
-use Rattle.copter.specs.declared.commands.Flags.{Flags}
+use Rattle.copter.specs.declared.memory.CopterGuidance.{CopterGuidance}
+use Rattle.copter.specs.declared.commands.Command.{Command}
 use Rattle.records.specs.declared.craft.Guidance.{Guidance}
 use Rattle.records.specs.declared.craft.Guidance.the-variants.{Unconfigured, Configured}
 use Rattle.records.specs.declared.craft.Craft.{Craft}
 use Rattle.records.specs.declared.answer.Refusal.{Refusal}
-use Rattle.records.specs.declared.answer.Refusal.the-variants.{Field, TimeStep, Heading, Rate, Kind, Short, NotConfigured, Mark, NoRoom}
+use Rattle.records.specs.declared.answer.Refusal.the-variants as refusals
 use Rattle.records.specs.declared.answer.Answer.{Answer}
-use Rattle.records.specs.declared.answer.Answer.the-variants.{Attitude, BodyRate, Refused, Done, NoWind, Wind}
-use Rattle.records.specs.Ready as readiness
-use Rattle.records.specs.Answer.{setpoint-bytes, refusal-bytes, answer-bytes}
-use Rattle.records.specs.Read.{byte-at, float-at, state-at}
-use Rattle.records.specs.Step.{Verdict, Outcome, lowest, time-step-ok, heading-ok, marks-ok, refuse, guided, setpoint-answer, configure, prime-record, checked, called, rate-record, wind-answer, wind-record, of-kind, body-length, answered, with-kind, step}
+use Rattle.records.specs.declared.answer.Answer.the-variants as answers
+use Rattle.records.specs.declared.kinds.InFlight.{InFlight}
+use Rattle.records.specs.declared.kinds.InFlight.the-variants as flights
+use Rattle.records.specs.declared.kinds.Kind.{Kind}
+use Rattle.records.specs.declared.kinds.Kind.the-variants as kinds
+use Rattle.records.specs.declared.read.Input.{Input}
+use Rattle.records.specs.declared.read.Input.the-variants as inputs
+use Rattle.records.specs.declared.read.Read.{Read}
+use Rattle.records.specs.declared.read.Read.the-variants as reading
+use Rattle.records.specs.declared.read.Configuration.{Configuration}
+use Rattle.records.specs.declared.read.Configuration.the-variants.{Of, Broken}
+use Rattle.records.specs.declared.read.CommandRead.{CommandRead}
+use Rattle.records.specs.declared.read.CommandRead.the-variants as commanded
+use Rattle.records.specs.Answer.{number, is-none, refusal-of, accepted, setpoint-bytes, refusal-bytes, answer-bytes}
+use Rattle.records.specs.Layout.{byte-at}
+use Rattle.records.specs.Kinds.{kind-of, body-length, command-start}
+use Rattle.records.specs.Read.{command, state, time-step-ok, heading-ok, configuration, call-input, read}
+use Rattle.records.specs.Step.{setpoint-answer, wind-answer, guided, perform, Verdict, Accepted, Refused, configure, told, serve}
+use Rattle.records.specs.Step.{Judged, untaken, with-body, with-kind, judged, Outcome, answer-of, answered, answer-room, step}
 use Rattle.records.specs.Flight.{ends-flight, cut-short}
+use Rattle.records.specs.Total.{last-kind, takes-none}
 
--- ---- what a record comes to
-
--- the verdict, and the bytes taken
-pub record Judged : Type 0 where
-  pub verdict : Verdict
-  pub taken : ℕ
-
-abbrev pub turned-away : Craft → Refusal → Judged
-turned-away craft refusal = record { verdict = refuse craft refusal; taken = 0 }
-
--- the last check of a known kind, its body's length
-abbrev bodied : ℕ → Craft → List ℕ → Judged
-bodied kind craft rest =
-    let needed = body-length kind in
-    cond (ltb (length rest) needed) (turned-away craft Short) (record { verdict = of-kind kind craft (take needed rest); taken = suc needed })
-
--- document 01's checks of a record, from the missing kind byte on
-unfoldable pub judged : Craft → List ℕ → Judged
-judged craft bytes =
-    let kind = byte-at bytes 0 in
-    cond (eqb (length bytes) 0) (turned-away craft Short)
-    (cond (ltb kind 1) (turned-away craft Kind) (cond (ltb 9 kind) (turned-away craft Kind) (bodied kind craft (drop 1 bytes))))
-
-abbrev pub settled : List ℕ → Judged → Outcome
-settled buffer j = answered (j .verdict) (j .taken) buffer
-
-either-settled : (buffer : List ℕ) (b : Bool) (j k : Judged) {p : Outcome} → p ≡ settled buffer k → cond b (settled buffer j) p ≡ settled buffer (cond b j k)
-either-settled buffer true j k second = refl
-either-settled buffer false j k second = second
-
--- Where there is room, the outcome is that verdict, written.
-pub step-settled : (craft : Craft) (bytes buffer : List ℕ) → 25 ≤ length buffer → step craft bytes buffer ≡ settled buffer (judged craft bytes)
-unfolding step with-kind judged
-step-settled craft bytes buffer room =
-    let kind = byte-at bytes 0 in
-    let rest = drop 1 bytes in
-    rw (le-ltb (length buffer) 25 room)
-    (either-settled buffer (eqb (length bytes) 0) _ _
-    (either-settled buffer (ltb kind 1) _ _
-    (either-settled buffer (ltb 9 kind) _ _ (either-settled buffer (ltb (length rest) (body-length kind)) _ _ refl))))
+-- Where there is room, the outcome is what the record comes to, written.
+pub step-judged : (craft : Craft) (bytes buffer : List ℕ) → answer-room ≤ length buffer
+    → step craft bytes buffer ≡ answered craft (judged (craft .guidance) bytes) buffer
+unfolding step
+step-judged craft bytes buffer room = rw (le-ltb (length buffer) answer-room room)
 
 -- ---- what is written
 
@@ -81,57 +63,174 @@ setpoint-eighteen kind w x y z flags = refl
 
 refusal-short : (refusal : Refusal) → length (refusal-bytes refusal) ≤ 3
 unfolding refusal-bytes
-refusal-short (Field field) = omega arith
-refusal-short TimeStep = omega arith
-refusal-short Heading = omega arith
-refusal-short Rate = omega arith
-refusal-short Kind = omega arith
-refusal-short Short = omega arith
-refusal-short NotConfigured = omega arith
-refusal-short Mark = omega arith
-refusal-short NoRoom = omega arith
+refusal-short (refusals.Field field) = omega arith
+refusal-short refusals.TimeStep = omega arith
+refusal-short refusals.Heading = omega arith
+refusal-short refusals.Rate = omega arith
+refusal-short refusals.Kind = omega arith
+refusal-short refusals.Short = omega arith
+refusal-short refusals.NotConfigured = omega arith
+refusal-short refusals.Mark = omega arith
+refusal-short refusals.NoRoom = omega arith
 
-pub answer-short : (answer : Answer) → length (answer-bytes answer) ≤ 25
+pub answer-short : (answer : Answer) → length (answer-bytes answer) ≤ answer-room
 unfolding answer-bytes
-answer-short (Attitude s flags) = omega (arith, setpoint-eighteen 1 (s .«roll_rad») (s .«pitch_rad») (s .«heading_rad») (s .thrust) flags)
-answer-short (BodyRate s flags) = omega (arith, setpoint-eighteen 2 (s .«roll_radps») (s .«pitch_radps») (s .«yaw_radps») (s .thrust) flags)
-answer-short (Refused refusal) = omega (arith, refusal-short refusal)
-answer-short Done = omega arith
-answer-short NoWind = omega arith
-answer-short (Wind w) = omega arith
+answer-short (answers.Attitude s flags) = omega (arith, setpoint-eighteen 1 (s .«roll_rad») (s .«pitch_rad») (s .«heading_rad») (s .thrust) flags)
+answer-short (answers.BodyRate s flags) = omega (arith, setpoint-eighteen 2 (s .«roll_radps») (s .«pitch_radps») (s .«yaw_radps») (s .thrust) flags)
+answer-short (answers.Refused refusal) = omega (arith, refusal-short refusal)
+answer-short answers.Done = omega arith
+answer-short answers.NoWind = omega arith
+answer-short (answers.Wind w) = omega arith
 
--- ---- what is taken
+-- ---- tests
 
 -- a fact of either of two values, by the test that picks one
 pub by-test : {A : Type 0} (P : A → Type 0) (b : Bool) {x y : A} → (b ≡ true → P x) → (b ≡ false → P y) → P (cond b x y)
 by-test P true first second = first refl
 by-test P false first second = second refl
 
+-- Values that agree where the test fails agree.
+pub same-unless : {A : Type 0} (b : Bool) (x : A) {p q : A} → (b ≡ false → p ≡ q) → cond b x p ≡ cond b x q
+same-unless true x agree = refl
+same-unless false x agree = agree refl
+
+pub neither : (a b : Bool) → a || b ≡ false → (a ≡ false) × (b ≡ false)
+neither true b e = absurd (true≢false e)
+neither false b e = (refl, e)
+
+-- ---- the kinds
+
+-- no kind of record
+abbrev pub unknown : Kind → Bool
+unknown kinds.Configure = false
+unknown (kinds.InFlight kind) = false
+unknown kinds.Unknown = true
+
+-- The kinds are 1 to 9.
+pub unknown-byte : (byte : ℕ) → unknown (kind-of byte) ≡ not (leb 1 byte && leb byte last-kind)
+unfolding kind-of
+unknown-byte zero = refl
+unknown-byte (suc zero) = refl
+unknown-byte (suc (suc zero)) = refl
+unknown-byte (suc (suc (suc zero))) = refl
+unknown-byte (suc (suc (suc (suc zero)))) = refl
+unknown-byte (suc (suc (suc (suc (suc zero))))) = refl
+unknown-byte (suc (suc (suc (suc (suc (suc zero)))))) = refl
+unknown-byte (suc (suc (suc (suc (suc (suc (suc zero))))))) = refl
+unknown-byte (suc (suc (suc (suc (suc (suc (suc (suc zero)))))))) = refl
+unknown-byte (suc (suc (suc (suc (suc (suc (suc (suc (suc zero))))))))) = refl
+unknown-byte (suc (suc (suc (suc (suc (suc (suc (suc (suc (suc n)))))))))) =
+    let byte = suc (suc (suc (suc (suc (suc (suc (suc (suc (suc n))))))))) in rw (lt-leb byte last-kind (omega arith), le-leb 1 byte (omega arith))
+
+pub known-kind : (kind : Kind) (guidance : Guidance) (rest : List ℕ) → unknown kind ≡ false
+    → with-kind kind guidance rest ≡ with-body kind guidance rest
+unfolding with-kind
+known-kind kinds.Configure guidance rest e = refl
+known-kind (kinds.InFlight kind) guidance rest e = refl
+known-kind kinds.Unknown guidance rest e = absurd (true≢false e)
+
+-- ---- what a record comes to
+
+-- a record of a kind with its whole body
+abbrev pub served : Kind → Guidance → List ℕ → Judged
+served kind guidance rest = let needed = body-length kind in record { verdict = serve kind guidance (take needed rest); taken = suc needed }
+
+module _ (P : Judged → Type 0) (guidance : Guidance) (bytes : List ℕ) (short : P (untaken refusals.Short)) where
+  with-body-cases : (kind : Kind) → 1 ≤ length bytes → (suc (body-length kind) ≤ length bytes → P (served kind guidance (drop 1 bytes)))
+      → P (with-body kind guidance (drop 1 bytes))
+  with-body-cases kind some whole =
+      let rest = drop 1 bytes in
+      by-test P (ltb (length rest) (body-length kind)) (λ cut. short)
+      (λ enough. whole (omega (arith, ltb-false (length rest) (body-length kind) enough, length-drop 1 bytes)))
+
+  with-kind-cases : P (untaken refusals.Kind) → (kind : Kind) → 1 ≤ length bytes
+      → (unknown kind ≡ false → suc (body-length kind) ≤ length bytes → P (served kind guidance (drop 1 bytes)))
+      → P (with-kind kind guidance (drop 1 bytes))
+  unfolding with-kind
+  with-kind-cases strange kinds.Configure some whole = with-body-cases kinds.Configure some (whole refl)
+  with-kind-cases strange (kinds.InFlight kind) some whole = with-body-cases (kinds.InFlight kind) some (whole refl)
+  with-kind-cases strange kinds.Unknown some whole = strange
+
+  -- A record is cut short, of no known kind, or whole.
+  pub judged-cases : P (untaken refusals.Kind) →
+      let kind = kind-of (byte-at bytes 0) in
+      (unknown kind ≡ false → suc (body-length kind) ≤ length bytes → P (served kind guidance (drop 1 bytes)))
+      → P (judged guidance bytes)
+  unfolding judged
+  judged-cases strange whole =
+      by-test P (eqb (length bytes) 0) (λ empty. short)
+      (λ some. let none-missing = eqb-false (length bytes) 0 some in with-kind-cases strange (kind-of (byte-at bytes 0)) (omega arith) whole)
+
+pub judged-whole : (guidance : Guidance) (bytes : List ℕ) →
+    let kind = kind-of (byte-at bytes 0) in
+    unknown kind ≡ false → suc (body-length kind) ≤ length bytes → judged guidance bytes ≡ served kind guidance (drop 1 bytes)
+unfolding judged
+judged-whole guidance bytes is-known whole =
+    let kind = kind-of (byte-at bytes 0) in
+    let rest = drop 1 bytes in
+    let some : length bytes ≡ 0 → ⊥ = λ empty. omega arith in
+    let enough : body-length kind ≤ length rest = omega (arith, length-drop 1 bytes) in
+    rw (ne-eqb (length bytes) 0 some, known-kind kind guidance rest is-known, le-ltb (length rest) (body-length kind) enough)
+
+-- a record of a known kind with its whole body, and room for its answer
+pub record Complete (bytes buffer : List ℕ) : Type 0 where
+  pub is-known : unknown (kind-of (byte-at bytes 0)) ≡ false
+  pub whole : suc (body-length (kind-of (byte-at bytes 0))) ≤ length bytes
+  pub room : answer-room ≤ length buffer
+
+-- Its outcome is what it comes to by its kind.
+pub complete-served : (craft : Craft) (bytes buffer : List ℕ) → Complete bytes buffer
+    → step craft bytes buffer ≡ answered craft (served (kind-of (byte-at bytes 0)) (craft .guidance) (drop 1 bytes)) buffer
+complete-served craft bytes buffer complete =
+    step-judged craft bytes buffer (complete .room)
+    ∙ ap (λ (j : Judged). answered craft j buffer) (judged-whole (craft .guidance) bytes (complete .is-known) (complete .whole))
+
+in-flight-told : (kind : Kind) (in-flight : InFlight) → kind ≡ kinds.InFlight in-flight → (guidance : Guidance) (body : List ℕ)
+    → serve kind guidance body ≡ told guidance (read in-flight body)
+unfolding serve
+in-flight-told kind in-flight is guidance body = rw is
+
+-- One of a kind in flight is told to the craft.
+pub complete-told : (craft : Craft) (bytes buffer : List ℕ) → Complete bytes buffer → (in-flight : InFlight) →
+    let kind = kind-of (byte-at bytes 0) in
+    let needed = body-length kind in
+    kind ≡ kinds.InFlight in-flight
+    → step craft bytes buffer
+    ≡ answered craft (record { verdict = told (craft .guidance) (read in-flight (take needed (drop 1 bytes))); taken = suc needed }) buffer
+complete-told craft bytes buffer complete in-flight is =
+    let kind = kind-of (byte-at bytes 0) in
+    let needed = body-length kind in
+    complete-served craft bytes buffer complete
+    ∙ ap (λ (v : Verdict). answered craft (record { verdict = v; taken = suc needed }) buffer)
+    (in-flight-told kind in-flight is (craft .guidance) (take needed (drop 1 bytes)))
+
+-- Only such a record is accepted.
+pub accepted-complete : (craft : Craft) (bytes buffer : List ℕ) → T (accepted (step craft bytes buffer .answer)) → Complete bytes buffer
+unfolding step answered answer-of
+accepted-complete craft bytes buffer =
+    by-test Completes (ltb (length buffer) answer-room) (λ small none. absurd none)
+    (λ room. judged-cases Completes (craft .guidance) bytes (λ none. absurd none) (λ none. absurd none)
+    (λ is-known whole some. record { is-known = is-known; whole = whole; room = ltb-false (length buffer) answer-room room }))
+  where
+    Completes : Judged → Type 0
+    Completes j = T (accepted (answer-of (j .verdict))) → Complete bytes buffer
+
+-- ---- what is taken
+
 -- No more bytes than there are, and one at least unless the flight ends.
 pub record Takes (bytes : List ℕ) (j : Judged) : Type 0 where
   pub within : j .taken ≤ length bytes
-  pub moves : ends-flight (j .verdict .answer) ≡ false → 1 ≤ j .taken
+  pub moves : ends-flight (answer-of (j .verdict)) ≡ false → 1 ≤ j .taken
 
-turned-away-takes : (craft : Craft) (bytes : List ℕ) (refusal : Refusal) → ends-flight (Refused refusal) ≡ true → Takes bytes (turned-away craft refusal)
-turned-away-takes craft bytes refusal ends =
-    record { within = omega arith; moves = λ (goes-on : ends-flight (Refused refusal) ≡ false). absurd (true≢false (sym ends ∙ goes-on)) }
+untaken-takes : (bytes : List ℕ) (refusal : Refusal) → ends-flight (answers.Refused refusal) ≡ true → Takes bytes (untaken refusal)
+unfolding answer-of
+untaken-takes bytes refusal ends =
+    record { within = omega arith; moves = λ (goes-on : ends-flight (answers.Refused refusal) ≡ false). absurd (true≢false (sym ends ∙ goes-on)) }
 
-pub judged-takes : (craft : Craft) (bytes : List ℕ) → Takes bytes (judged craft bytes)
-unfolding judged
-judged-takes craft bytes =
-    let kind = byte-at bytes 0 in
-    let rest = drop 1 bytes in
-    let needed = body-length kind in
-    let away = turned-away-takes craft bytes in
-    by-test (Takes bytes) (eqb (length bytes) 0) (λ none. away Short refl)
-    (λ some. by-test (Takes bytes) (ltb kind 1) (λ low. away Kind refl)
-    (λ high. by-test (Takes bytes) (ltb 9 kind) (λ above. away Kind refl)
-    (λ known. by-test (Takes bytes) (ltb (length rest) needed) (λ short. away Short refl)
-    (λ whole.
-    record {
-      within = omega (arith, eqb-false (length bytes) 0 some, ltb-false (length rest) needed whole, length-drop 1 bytes);
-      moves = λ goes-on. omega arith;
-    }))))
+pub judged-takes : (guidance : Guidance) (bytes : List ℕ) → Takes bytes (judged guidance bytes)
+judged-takes guidance bytes =
+    judged-cases (Takes bytes) guidance bytes (untaken-takes bytes refusals.Short refl) (untaken-takes bytes refusals.Kind refl)
+    (λ is-known whole. record { within = whole; moves = λ goes-on. omega arith })
 
 -- The same of the record operation, with what it writes.
 pub record Counted (bytes buffer : List ℕ) (outcome : Outcome) : Type 0 where
@@ -141,11 +240,12 @@ pub record Counted (bytes buffer : List ℕ) (outcome : Outcome) : Type 0 where
   pub puts : take (outcome .written) (outcome .buffer) ≡ answer-bytes (outcome .answer)
   pub kept : length (outcome .buffer) ≡ length buffer
 
-settled-counted : (bytes buffer : List ℕ) (j : Judged) → 25 ≤ length buffer → Takes bytes j → Counted bytes buffer (settled buffer j)
+answered-counted : (craft : Craft) (bytes buffer : List ℕ) (j : Judged) → answer-room ≤ length buffer → Takes bytes j
+    → Counted bytes buffer (answered craft j buffer)
 unfolding answered
-settled-counted bytes buffer j room takes =
-    let written = answer-bytes (j .verdict .answer) in
-    let short = answer-short (j .verdict .answer) in
+answered-counted craft bytes buffer j room takes =
+    let written = answer-bytes (answer-of (j .verdict)) in
+    let short = answer-short (answer-of (j .verdict)) in
     record {
       within = takes .within;
       moves = takes .moves;
@@ -154,140 +254,153 @@ settled-counted bytes buffer j room takes =
       kept = length-append written (drop (length written) buffer) ∙ omega (arith, length-drop (length written) buffer);
     }
 
-pub step-counted : (craft : Craft) (bytes buffer : List ℕ) → 25 ≤ length buffer → Counted bytes buffer (step craft bytes buffer)
+pub step-counted : (craft : Craft) (bytes buffer : List ℕ) → answer-room ≤ length buffer → Counted bytes buffer (step craft bytes buffer)
 step-counted craft bytes buffer room =
-    rw (step-settled craft bytes buffer room) (settled-counted bytes buffer (judged craft bytes) room (judged-takes craft bytes))
+    rw (step-judged craft bytes buffer room)
+    (answered-counted craft bytes buffer (judged (craft .guidance) bytes) room (judged-takes (craft .guidance) bytes))
 
 -- ---- what a record does not look at
 
--- Values that agree where the test fails agree.
-pub same-unless : {A : Type 0} (b : Bool) (x : A) {p q : A} → (b ≡ false → p ≡ q) → cond b x p ≡ cond b x q
-same-unless true x agree = refl
-same-unless false x agree = agree refl
-
-bodied-prefix : (kind : ℕ) (craft : Craft) (rest more : List ℕ) → body-length kind ≤ length rest → bodied kind craft (rest ++ more) ≡ bodied kind craft rest
-bodied-prefix kind craft rest more enough =
+with-body-prefix : (kind : Kind) (guidance : Guidance) (rest more : List ℕ) → body-length kind ≤ length rest
+    → with-body kind guidance (rest ++ more) ≡ with-body kind guidance rest
+with-body-prefix kind guidance rest more enough =
     let needed = body-length kind in
     let longer : needed ≤ length (rest ++ more) = omega (arith, length-append rest more) in
     rw (le-ltb (length (rest ++ more)) needed longer, le-ltb (length rest) needed enough, take-append-le needed rest more enough)
 
--- A record of a known kind that is not cut short has its whole body.
-whole-body : (bytes : List ℕ) → 1 ≤ byte-at bytes 0 → byte-at bytes 0 ≤ 9 → cut-short bytes ≡ false → body-length (byte-at bytes 0) ≤ length (drop 1 bytes)
-unfolding cut-short
-whole-body bytes low high not-short =
-    let kind = byte-at bytes 0 in
-    let whole = ltb-false (length bytes - 1) (body-length kind) (rw (le-leb 1 kind low, le-leb kind 9 high) at not-short) in
-    omega (arith, length-drop 1 bytes)
+with-kind-prefix : (kind : Kind) (guidance : Guidance) (rest more : List ℕ) → body-length kind ≤ length rest
+    → with-kind kind guidance (rest ++ more) ≡ with-kind kind guidance rest
+unfolding with-kind
+with-kind-prefix kinds.Configure guidance rest more enough = with-body-prefix kinds.Configure guidance rest more enough
+with-kind-prefix (kinds.InFlight kind) guidance rest more enough = with-body-prefix (kinds.InFlight kind) guidance rest more enough
+with-kind-prefix kinds.Unknown guidance rest more enough = refl
 
 -- What follows a whole record does not change it.
-pub judged-prefix : (craft : Craft) (bytes more : List ℕ) → 1 ≤ length bytes → cut-short bytes ≡ false → judged craft (bytes ++ more) ≡ judged craft bytes
-unfolding judged
-judged-prefix craft bytes more some not-short =
-    let kind = byte-at bytes 0 in
-    let longer : length (bytes ++ more) ≡ 0 → ⊥ = λ none. omega (arith, length-append bytes more) in
-    let here : length bytes ≡ 0 → ⊥ = λ none. omega arith in
+pub judged-prefix : (guidance : Guidance) (bytes more : List ℕ) → 1 ≤ length bytes → cut-short bytes ≡ false
+    → judged guidance (bytes ++ more) ≡ judged guidance bytes
+unfolding judged cut-short
+judged-prefix guidance bytes more some not-short =
+    let kind = kind-of (byte-at bytes 0) in
+    let longer : length (bytes ++ more) ≡ 0 → ⊥ = λ empty. omega (arith, length-append bytes more) in
+    let here : length bytes ≡ 0 → ⊥ = λ empty. omega arith in
+    let enough : body-length kind ≤ length (drop 1 bytes) =
+    omega (arith, ltb-false (length bytes - 1) (body-length kind) not-short, length-drop 1 bytes) in
     rw (
       ne-eqb (length (bytes ++ more)) 0 longer,
       ne-eqb (length bytes) 0 here,
       List·getD-append bytes more 0 0 some,
       drop-append-le 1 bytes more some,
     )
-    (same-unless (ltb kind 1) _
-    (λ low. same-unless (ltb 9 kind) _
-    (λ high. bodied-prefix kind craft (drop 1 bytes) more (whole-body bytes (ltb-false kind 1 low) (ltb-false 9 kind high) not-short))))
+    (with-kind-prefix kind guidance (drop 1 bytes) more enough)
 
 -- The record operation does not look past a whole record.
-pub nothing-past-a-record : (craft : Craft) (bytes more buffer : List ℕ) → 25 ≤ length buffer → 1 ≤ length bytes → cut-short bytes ≡ false
+pub nothing-past-a-record : (craft : Craft) (bytes more buffer : List ℕ) → answer-room ≤ length buffer → 1 ≤ length bytes → cut-short bytes ≡ false
     → step craft (bytes ++ more) buffer ≡ step craft bytes buffer
 nothing-past-a-record craft bytes more buffer room some not-short =
-    step-settled craft (bytes ++ more) buffer room
-    ∙ ap (settled buffer) (judged-prefix craft bytes more some not-short)
-    ∙ sym (step-settled craft bytes buffer room)
+    rw (
+      step-judged craft (bytes ++ more) buffer room,
+      step-judged craft bytes buffer room,
+      judged-prefix (craft .guidance) bytes more some not-short,
+    )
+
+-- ---- what a whole record is answered
+
+setpoint-accepted : (setpoint : Setpoint) (flags : Flags) → refusal-of (setpoint-answer setpoint flags) ≡ none
+unfolding setpoint-answer
+setpoint-accepted (setpoints.Attitude s) flags = refl
+setpoint-accepted (setpoints.BodyRate s) flags = refl
+
+reading-accepted : (reading : Filter) → refusal-of (wind-answer reading) ≡ none
+unfolding wind-answer
+reading-accepted filters.Nothing = refl
+reading-accepted (filters.Estimate estimate) = refl
+
+-- Performing never refuses.
+pub perform-accepted : (g : CopterGuidance) (input : Input) → refusal-of (perform g input .answer) ≡ none
+unfolding perform guided
+perform-accepted g (inputs.Prime state) = refl
+perform-accepted g (inputs.Call dt state command) = let m = guide-call g dt state command in setpoint-accepted (m .setpoint) (m .flags)
+perform-accepted g inputs.Wind = reading-accepted (wind-reading g)
+
+-- an accepted answer, or a refusal that takes the record
+abbrev pub TakesRecord : Verdict → Type 0
+TakesRecord (Accepted g answer) = refusal-of answer ≡ none
+TakesRecord (Refused refusal) = takes-none (number refusal) ≡ false
+
+-- the same of what a body says
+abbrev TakesBody : Read → Type 0
+TakesBody (reading.Input input) = Unit {0}
+TakesBody (reading.Refused refusal) = takes-none (number refusal) ≡ false
+
+-- whatever its checks say
+checked-takes : (command : Command) (dt : Float) (state : VehicleState) (t h : Bool) → time-step-ok dt ≡ t → heading-ok (state .«heading_rad») ≡ h
+    → TakesBody (call-input (commanded.Command command) dt state)
+unfolding call-input
+checked-takes command dt state true true in-time headed = simp (in-time, headed) tt
+checked-takes command dt state true false in-time turned = simp (in-time, turned) refl
+checked-takes command dt state false true late headed = simp (late, headed) refl
+checked-takes command dt state false false late turned = simp (late, turned) refl
+
+call-takes : (commanded : CommandRead) (dt : Float) (state : VehicleState) → TakesBody (call-input commanded dt state)
+unfolding call-input
+call-takes commanded.BadMark dt state = refl
+call-takes (commanded.Command command) dt state =
+    checked-takes command dt state (time-step-ok dt) (heading-ok (state .«heading_rad»)) refl refl
+
+read-takes : (kind : InFlight) (body : List ℕ) → TakesBody (read kind body)
+unfolding read
+read-takes flights.Prime body = by-test TakesBody (heading-ok (state body .«heading_rad»)) (λ headed. tt) (λ turned. refl)
+read-takes (flights.Call call) body = call-takes (command call (drop command-start body)) _ _
+read-takes flights.Rate body = refl
+read-takes flights.Wind body = tt
+
+told-takes : (guidance : Guidance) (said : Read) → TakesBody said → TakesRecord (told guidance said)
+unfolding told
+told-takes Unconfigured said takes = refl
+told-takes (Configured g) (reading.Input input) takes = perform-accepted g input
+told-takes (Configured g) (reading.Refused refusal) takes = takes
+
+configure-takes : (said : Configuration) → TakesRecord (configure said)
+unfolding configure
+configure-takes (Of config) = refl
+configure-takes (Broken field) = refl
+
+pub serve-takes : (kind : Kind) (guidance : Guidance) (body : List ℕ) → unknown kind ≡ false → TakesRecord (serve kind guidance body)
+unfolding serve
+serve-takes kinds.Configure guidance body e = configure-takes (configuration body)
+serve-takes (kinds.InFlight kind) guidance body e = told-takes guidance (read kind body) (read-takes kind body)
+serve-takes kinds.Unknown guidance body e = absurd (true≢false e)
 
 -- ---- what ends a flight
 
--- an answer after which the flight goes on
-abbrev GoesOn : Verdict → Type 0
-GoesOn verdict = ends-flight (verdict .answer) ≡ false
+accepted-goes-on : (answer : Answer) → refusal-of answer ≡ none → ends-flight answer ≡ false
+accepted-goes-on (answers.Attitude setpoint flags) e = refl
+accepted-goes-on (answers.BodyRate setpoint flags) e = refl
+accepted-goes-on (answers.Refused refusal) e = absurd (true≢false (sym (ap is-none e)))
+accepted-goes-on answers.Done e = refl
+accepted-goes-on answers.NoWind e = refl
+accepted-goes-on (answers.Wind estimate) e = refl
 
-either-goes-on : (b : Bool) (v w : Verdict) → GoesOn v → GoesOn w → GoesOn (cond b v w)
-either-goes-on true v w first second = first
-either-goes-on false v w first second = second
-
-guided-goes-on : (craft : CopterGuidance) (setpoint : Setpoint) (flags : Flags) → GoesOn (guided (record { craft = craft; setpoint = setpoint; flags = flags }))
-unfolding guided setpoint-answer
-guided-goes-on craft (setpoints.Attitude s) flags = refl
-guided-goes-on craft (setpoints.BodyRate s) flags = refl
-
-configure-goes-on : (craft : Craft) (body : List ℕ) → GoesOn (configure craft body)
-unfolding configure
-configure-goes-on craft body = either-goes-on (leb (lowest body 1 50) 50) _ _ refl refl
-
-prime-goes-on : (craft : Craft) (guidance : Guidance) (body : List ℕ) → GoesOn (prime-record craft guidance body)
-unfolding prime-record
-prime-goes-on craft Unconfigured body = refl
-prime-goes-on craft (Configured g) body = either-goes-on (heading-ok (state-at body 0 .«heading_rad»)) _ _ refl refl
-
-checked-goes-on : (craft : Craft) (unmarked late headed : Bool) (g : CopterGuidance) (dt : Float) (state : VehicleState) (command : Command) →
-    GoesOn
-    (called
-    (cond unmarked (readiness.Refused Mark)
-    (cond late (readiness.Refused TimeStep) (cond headed (readiness.Call g dt state) (readiness.Refused Heading))))
-    craft command)
-unfolding called
-checked-goes-on craft true late headed g dt state command = refl
-checked-goes-on craft false true headed g dt state command = refl
-checked-goes-on craft false false true g dt state command = let m = guide-call g dt state command in guided-goes-on (m .craft) (m .setpoint) (m .flags)
-checked-goes-on craft false false false g dt state command = refl
-
-call-goes-on : (craft : Craft) (guidance : Guidance) (body : List ℕ) (marks : Bool) (command : Command) → GoesOn (called (checked guidance body marks) craft command)
-unfolding checked called
-call-goes-on craft Unconfigured body marks command = refl
-call-goes-on craft (Configured g) body marks command =
-    checked-goes-on craft (not marks) (not (time-step-ok (float-at body 0))) (heading-ok (state-at body 4 .«heading_rad»)) g (float-at body 0) (state-at body 4) command
-
-rate-goes-on : (craft : Craft) (guidance : Guidance) → GoesOn (rate-record craft guidance)
-unfolding rate-record
-rate-goes-on craft Unconfigured = refl
-rate-goes-on craft (Configured g) = refl
-
-reading-goes-on : (reading : Filter) → ends-flight (wind-answer reading) ≡ false
-reading-goes-on filters.Nothing = refl
-reading-goes-on (filters.Estimate estimate) = refl
-
-wind-goes-on : (craft : Craft) (guidance : Guidance) → GoesOn (wind-record craft guidance)
-unfolding wind-record
-wind-goes-on craft Unconfigured = refl
-wind-goes-on craft (Configured g) = reading-goes-on (wind-reading g)
+taken-goes-on : (verdict : Verdict) → TakesRecord verdict → ends-flight (answer-of verdict) ≡ false
+unfolding answer-of
+taken-goes-on (Accepted g answer) takes = accepted-goes-on answer takes
+taken-goes-on (Refused refusal) takes = neither (ends-flight (answers.Refused refusal)) (eqb (number refusal) 9) takes .0
 
 -- A record whose body is whole does not end the flight.
-pub whole-goes-on : (kind : ℕ) (craft : Craft) (body : List ℕ) → GoesOn (of-kind kind craft body)
-unfolding of-kind
-whole-goes-on kind craft body =
-    let guidance = craft .guidance in
-    either-goes-on (eqb kind 1) _ _ (configure-goes-on craft body)
-    (either-goes-on (eqb kind 2) _ _ (prime-goes-on craft guidance body)
-    (either-goes-on (eqb kind 3) _ _ (call-goes-on craft guidance body true _)
-    (either-goes-on (eqb kind 4) _ _ (rate-goes-on craft guidance)
-    (either-goes-on (eqb kind 5) _ _ (call-goes-on craft guidance body (marks-ok body) _)
-    (either-goes-on (eqb kind 6) _ _ (call-goes-on craft guidance body true _)
-    (either-goes-on (eqb kind 7) _ _ (call-goes-on craft guidance body true _)
-    (either-goes-on (eqb kind 8) _ _ (call-goes-on craft guidance body true _) (wind-goes-on craft guidance))))))))
+pub whole-goes-on : (kind : Kind) (guidance : Guidance) (body : List ℕ) → unknown kind ≡ false
+    → ends-flight (answer-of (serve kind guidance body)) ≡ false
+whole-goes-on kind guidance body is-known = taken-goes-on (serve kind guidance body) (serve-takes kind guidance body is-known)
 
 -- no byte is taken where the flight ends
-abbrev EndsInPlace : Outcome → Type 0
-EndsInPlace outcome = ends-flight (outcome .answer) ≡ true → outcome .taken ≡ 0
+abbrev EndsInPlace : Judged → Type 0
+EndsInPlace j = ends-flight (answer-of (j .verdict)) ≡ true → j .taken ≡ 0
 
 -- A record that ends the flight takes no byte.
-pub ending-takes-nothing : (craft : Craft) (bytes buffer : List ℕ) → ends-flight (step craft bytes buffer .answer) ≡ true → step craft bytes buffer .taken ≡ 0
-unfolding step with-kind answered
+pub ending-takes-nothing : (craft : Craft) (bytes buffer : List ℕ) → ends-flight (step craft bytes buffer .answer) ≡ true
+    → step craft bytes buffer .taken ≡ 0
+unfolding step answered
 ending-takes-nothing craft bytes buffer =
-    let kind = byte-at bytes 0 in
-    let rest = drop 1 bytes in
-    let needed = body-length kind in
-    by-test EndsInPlace (ltb (length buffer) 25) (λ small ends. refl)
-    (λ room. by-test EndsInPlace (eqb (length bytes) 0) (λ none ends. refl)
-    (λ some. by-test EndsInPlace (ltb kind 1) (λ low ends. refl)
-    (λ high. by-test EndsInPlace (ltb 9 kind) (λ above ends. refl)
-    (λ known. by-test EndsInPlace (ltb (length rest) needed) (λ short ends. refl)
-    (λ whole ends. absurd (true≢false (sym ends ∙ whole-goes-on kind craft (take needed rest))))))))
+    let guidance = craft .guidance in
+    by-test EndsInPlace (ltb (length buffer) answer-room) (λ small ends. refl)
+    (λ room. judged-cases EndsInPlace guidance bytes (λ ends. refl) (λ ends. refl)
+    (λ is-known whole ends. absurd (true≢false (sym ends ∙ whole-goes-on (kind-of (byte-at bytes 0)) guidance _ is-known))))

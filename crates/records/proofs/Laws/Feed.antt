@@ -1,14 +1,14 @@
 -- The claim over whole feeds holds: `whole-feeds`. Two crafts that differ in no more than what cannot be read answer every list alike, and an ending call
 -- leaves a craft that differs in no more than that from the reset one. Assumes nothing.
-use Prim.Native.Nat.{ℕ}
+use Prim.Native.Nat.{ℕ, suc}
 use mathlib.Core.Path.{_≡_, refl, sym, ap, _∙_}
-use mathlib.Core.Bool.{Bool, true, false, not, cond}
-use mathlib.Core.Logic.{_⊎_, inl, inr}
+use mathlib.Core.Bool.{Bool, true, false, cond}
+use mathlib.Core.Logic.{⊎-elim}
 use mathlib.Core.List.{List, [], _∷_, _++_}
-use lib.Dec.{T, leb, ltb, eqb}
-use lib.ListN.{length, drop}
+use lib.Dec.{T, ltb, eqb}
+use lib.ListN.{length, take, drop}
 use lib.Ieee.{Float, binary32, fits}
-use lib.Ieee.Bits.{is-true, ofBits-fits}
+use lib.Ieee.Bits.{is-true}
 use lib.Ieee.Scale.{finite}
 use Rattle.math.specs.Math.{wrap-angle}
 use Rattle.math.proofs.Laws.Wrap.{wrap-finite}
@@ -16,247 +16,209 @@ use Rattle.wind.specs.declared.state.VehicleState.{VehicleState}
 use Rattle.heading.specs.declared.hover_wind.HoverWind.{HoverWind}
 use Rattle.heading.proofs.Laws.HoverWind.{prime-grounded, prime-airborne}
 use Rattle.copter.specs.Memory.{fresh}
-use Rattle.copter.specs.Guide.{heading-target, followed-heading, command-heading, piloted, absolute-attitude-call, absolute-rate-call, guide-call, new-craft, prime, wind-reading}
+use Rattle.copter.specs.Guide.{heading-target, followed-heading, command-heading, piloted, absolute-attitude-call, absolute-rate-call}
+use Rattle.copter.specs.Guide.{wind-updated, guide-call, new-craft, prime, wind-reading}
 use Rattle.copter.specs.declared.commands.Command.{Command}
 use Rattle.copter.specs.declared.commands.Command.the-variants as commands
 use Rattle.copter.specs.declared.config.CopterGuidanceConfig.{CopterGuidanceConfig}
 use Rattle.copter.specs.declared.memory.Memory.{Memory}
 use Rattle.copter.specs.declared.memory.CopterGuidance.{CopterGuidance}
-use Rattle.copter.specs.declared.guide.Guided.{Guided}
-use Rattle.copter.proofs.Laws.Calls.{Call, guide, attitude, absolute-attitude, absolute-rate, waypoint, land}
-use Rattle.copter.proofs.Laws.Calls as calls
-use Rattle.copter.proofs.Laws.Norm.{norm-lateral, norm, norm-craft, norm-guided, fresh-with, piloted-leaves-fresh, call-from-norm, norm-fresh, prime-from-norm, wind-from-norm}
+use Rattle.copter.proofs.Laws.Calls.{call-of, guide-call-of}
+use Rattle.copter.proofs.Laws.Norm.{norm, norm-craft, norm-guided, fresh-with, piloted-leaves-fresh}
+use Rattle.copter.proofs.Laws.Norm.{call-from-norm, norm-fresh, prime-from-norm, wind-from-norm}
 use Rattle.records.specs.declared.craft.Guidance.{Guidance}
 use Rattle.records.specs.declared.craft.Guidance.the-variants.{Unconfigured, Configured}
 use Rattle.records.specs.declared.craft.Craft.{Craft}
-use Rattle.records.specs.declared.answer.Refusal.{Refusal}
-use Rattle.records.specs.declared.answer.Refusal.the-variants.{Field, TimeStep, Heading, Rate, Kind, Short, NotConfigured, Mark, NoRoom}
-use Rattle.records.specs.declared.answer.Answer.{Answer}
+use Rattle.records.specs.declared.answer.Refusal.the-variants as refusals
 use Rattle.records.specs.declared.answer.Answer.the-variants.{Done}
-use Rattle.records.specs.Ready as readiness
-use Rattle.records.specs.Answer.{accepted, answer-bytes}
+use Rattle.records.specs.declared.kinds.Call.{Call}
+use Rattle.records.specs.declared.kinds.Call.the-variants as calls
+use Rattle.records.specs.declared.kinds.InFlight.{InFlight}
+use Rattle.records.specs.declared.kinds.InFlight.the-variants as flights
+use Rattle.records.specs.declared.kinds.Kind.{Kind}
+use Rattle.records.specs.declared.kinds.Kind.the-variants as kinds
+use Rattle.records.specs.declared.read.Input.{Input}
+use Rattle.records.specs.declared.read.Input.the-variants as inputs
+use Rattle.records.specs.declared.read.Read.{Read}
+use Rattle.records.specs.declared.read.Read.the-variants as reading
+use Rattle.records.specs.declared.read.CommandRead.the-variants as commanded
 use Rattle.records.specs.Craft.{unconfigured}
-use Rattle.records.specs.Read.{float-at, state-at, attitude-command, waypoint-command, absolute-attitude-command, land-command, absolute-rate-command}
-use Rattle.records.specs.Step.{Verdict, configured, lowest, time-step-ok, heading-ok, marks-ok, refuse, setpoint-answer, guided, configure, prime-record, checked, called, rate-record, wind-answer, wind-record, of-kind, body-length, Outcome, answered, reported, with-kind, step}
-use Rattle.records.specs.Feed.{Entry, reply, outcome, after, replies, Link, Fed, given-back, port-replies, kind-of, body-of, Ending, heading-of, Priming, fresh-guidance, made-fresh, reset-guidance, reset, heading-held, wind-held, above-ground, SameWind, WholeFeeds}
+use Rattle.records.specs.Answer.{accepted}
+use Rattle.records.specs.Layout.{byte-at, float-at}
+use Rattle.records.specs.Kinds.{kind-of, body-length, state-start, command-start}
+use Rattle.records.specs.Read.{absolute-attitude-command, absolute-rate-command, command, state-at, heading-ok}
+use Rattle.records.specs.Read.{prime-input, call-input, read}
+use Rattle.records.specs.Step.{configured, setpoint-answer, wind-answer, guided, perform, Verdict, Accepted, Refused, performed, told, serve}
+use Rattle.records.specs.Step.{Judged, untaken, with-body, with-kind, judged, Outcome, craft-after, answer-of, answered}
+use Rattle.records.specs.Step.{answer-room, step, reported}
+use Rattle.records.specs.Feed.{Entry, reply, outcome, after, machine, replies, Link, Fed, given-back, port-replies, kind-byte, body-of}
+use Rattle.records.specs.Feed.{Ending, heading-of, ending-heading, Priming, made-fresh, reset, heading-held, wind-held}
+use Rattle.records.specs.Feed.{above-ground, SameWind, WholeFeeds}
+use Rattle.records.specs.Feed as feed
+use Rattle.records.proofs.Laws.Layout.{float-at-fits}
+use Rattle.records.proofs.Laws.Counts.{by-test, complete-told, accepted-complete}
+use Rattle.records.proofs.Laws.Read.{by-checks}
 
 -- ---- crafts that differ in no more than what cannot be read
 
-abbrev Alike : Guidance → Guidance → Type 0
-Alike Unconfigured Unconfigured = Unit {0}
-Alike Unconfigured (Configured h) = ⊥
-Alike (Configured g) Unconfigured = ⊥
-Alike (Configured g) (Configured h) = norm-craft g ≡ norm-craft h
+abbrev pub norm-guidance : Guidance → Guidance
+norm-guidance Unconfigured = Unconfigured
+norm-guidance (Configured g) = Configured (norm-craft g)
 
-record SameVerdict (v w : Verdict) : Type 0 where
-  pub same-answer : v .answer ≡ w .answer
-  pub alike : Alike (v .craft .guidance) (w .craft .guidance)
+abbrev pub normed : Craft → Craft
+normed craft = record { guidance = norm-guidance (craft .guidance) }
 
-either-same : (b : Bool) {v w x y : Verdict} → SameVerdict v x → SameVerdict w y → SameVerdict (cond b v w) (cond b x y)
-either-same true s t = s
-either-same false s t = t
+abbrev norm-verdict : Verdict → Verdict
+norm-verdict (Accepted g answer) = Accepted (norm-craft g) answer
+norm-verdict (Refused refusal) = Refused refusal
 
-guided-same : (a b : Guided) → norm-guided a ≡ norm-guided b → SameVerdict (guided a) (guided b)
-unfolding guided norm-guided
-guided-same a b e =
-    record { same-answer = ap (λ (n : Guided). setpoint-answer (n .setpoint) (n .flags)) e; alike = ap (λ (n : Guided). n .craft) e }
+abbrev norm-judged : Judged → Judged
+norm-judged j = record { verdict = norm-verdict (j .verdict); taken = j .taken }
 
-call-same : (g h : CopterGuidance) (dt : Float) (state : VehicleState) (call : Call) → norm-craft g ≡ norm-craft h
-    → norm-guided (guide g dt state call) ≡ norm-guided (guide h dt state call)
-call-same g h dt state call e =
-    call-from-norm g dt state call
-    ∙ ap (λ (n : CopterGuidance). norm-guided (guide n dt state call)) e
-    ∙ sym (call-from-norm h dt state call)
+abbrev norm-outcome : Outcome → Outcome
+norm-outcome o = record { craft = normed (o .craft); answer = o .answer; taken = o .taken; written = o .written; buffer = o .buffer }
 
-guide-same : (g h : CopterGuidance) (dt : Float) (state : VehicleState) (command : Command) → norm-craft g ≡ norm-craft h
-    → norm-guided (guide-call g dt state command) ≡ norm-guided (guide-call h dt state command)
-unfolding guide-call
-guide-same g h dt state (commands.Attitude c) e = call-same g h dt state (calls.piloted (attitude c)) e
-guide-same g h dt state (commands.Waypoint c) e = call-same g h dt state (calls.navigated (waypoint c)) e
-guide-same g h dt state (commands.AbsoluteAttitude c) e = call-same g h dt state (calls.piloted (absolute-attitude c)) e
-guide-same g h dt state (commands.Land c) e = call-same g h dt state (calls.navigated (land c)) e
-guide-same g h dt state (commands.AbsoluteRate c) e = call-same g h dt state (calls.piloted (absolute-rate c)) e
+-- ---- each record
 
-prime-same : (g h : CopterGuidance) (state : VehicleState) → norm-craft g ≡ norm-craft h → prime g state ≡ prime h state
-prime-same g h state e = prime-from-norm g state ∙ ap (λ (n : CopterGuidance). prime n state) e ∙ sym (prime-from-norm h state)
+module _ (g h : CopterGuidance) (same : norm-craft g ≡ norm-craft h) where
+  -- What comes of a craft as of its `norm` comes of both.
+  of-both : {A : Type 0} (f : CopterGuidance → A) → ((n : CopterGuidance) → f n ≡ f (norm-craft n)) → f g ≡ f h
+  of-both f from-norm = from-norm g ∙ ap f same ∙ sym (from-norm h)
 
-wind-same : (g h : CopterGuidance) → norm-craft g ≡ norm-craft h → wind-reading g ≡ wind-reading h
-wind-same g h e = wind-from-norm g ∙ ap wind-reading e ∙ sym (wind-from-norm h)
+  perform-same : (input : Input) → norm-verdict (performed g (perform g input)) ≡ norm-verdict (performed h (perform h input))
+  unfolding perform guided norm-guided norm-craft
+  perform-same (inputs.Prime state) =
+      let primed = of-both (λ n. prime n state) (λ n. prime-from-norm n state) in
+      λ i. Accepted (record { config = same i .config; memory = norm (primed i .memory) }) Done
+  perform-same (inputs.Call dt state command) =
+      let m =
+      of-both (λ n. norm-guided (guide-call n dt state command))
+      (λ n. rw (guide-call-of n dt state command, guide-call-of (norm-craft n) dt state command) (call-from-norm n dt state (call-of command))) in
+      λ i. Accepted (record { config = same i .config; memory = m i .craft .memory }) (setpoint-answer (m i .setpoint) (m i .flags))
+  perform-same inputs.Wind = let reading = of-both wind-reading wind-from-norm in λ i. Accepted (same i) (wind-answer (reading i))
 
--- ---- each kind of record
+told-same : (a b : Guidance) → norm-guidance a ≡ norm-guidance b → (said : Read) → norm-verdict (told a said) ≡ norm-verdict (told b said)
+unfolding told
+told-same Unconfigured Unconfigured same said = refl
+told-same Unconfigured (Configured h) same said = cc
+told-same (Configured g) Unconfigured same said = cc
+told-same (Configured g) (Configured h) same (reading.Input input) = perform-same g h (cc) input
+told-same (Configured g) (Configured h) same (reading.Refused refusal) = refl
 
-module _ (c d : Craft) (a : Alike (c .guidance) (d .guidance)) (body : List ℕ) where
-  refused-same : (refusal : Refusal) → SameVerdict (refuse c refusal) (refuse d refusal)
-  refused-same refusal = record { same-answer = refl; alike = a }
+-- where a test leads to the same, or to what is the same but for what `norm` sets
+unless-same : (b : Bool) (x j k : Judged) → norm-judged j ≡ norm-judged k → norm-judged (cond b x j) ≡ norm-judged (cond b x k)
+unless-same true x j k same = refl
+unless-same false x j k same = same
 
-  configure-same : SameVerdict (configure c body) (configure d body)
-  unfolding configure
-  configure-same = either-same (leb (lowest body 1 50) 50) (refused-same (Field (lowest body 1 50))) (record { same-answer = refl; alike = refl })
+module _ (a b : Guidance) (same : norm-guidance a ≡ norm-guidance b) where
+  serve-same : (kind : Kind) (body : List ℕ) → norm-verdict (serve kind a body) ≡ norm-verdict (serve kind b body)
+  unfolding serve
+  serve-same kinds.Configure body = refl
+  serve-same (kinds.InFlight kind) body = told-same a b same (read kind body)
+  serve-same kinds.Unknown body = refl
 
-  prime-record-same : (g h : Guidance) → Alike g h → SameVerdict (prime-record c g body) (prime-record d h body)
-  unfolding prime-record
-  prime-record-same Unconfigured Unconfigured e = refused-same NotConfigured
-  prime-record-same Unconfigured (Configured h) e = absurd e
-  prime-record-same (Configured g) Unconfigured e = absurd e
-  prime-record-same (Configured g) (Configured h) e =
-      either-same (heading-ok (state-at body 0 .«heading_rad»))
-      (record { same-answer = refl; alike = ap norm-craft (prime-same g h (state-at body 0) e) })
-      (refused-same Heading)
+  with-body-same : (kind : Kind) (rest : List ℕ) → norm-judged (with-body kind a rest) ≡ norm-judged (with-body kind b rest)
+  with-body-same kind rest =
+      let needed = body-length kind in
+      unless-same (ltb (length rest) needed) (untaken refusals.Short) _ _
+      (λ i. record { verdict = serve-same kind (take needed rest) i; taken = suc needed })
 
-  rate-record-same : (g h : Guidance) → Alike g h → SameVerdict (rate-record c g) (rate-record d h)
-  unfolding rate-record
-  rate-record-same Unconfigured Unconfigured e = refused-same NotConfigured
-  rate-record-same Unconfigured (Configured h) e = absurd e
-  rate-record-same (Configured g) Unconfigured e = absurd e
-  rate-record-same (Configured g) (Configured h) e = refused-same Rate
+  with-kind-same : (kind : Kind) (rest : List ℕ) → norm-judged (with-kind kind a rest) ≡ norm-judged (with-kind kind b rest)
+  unfolding with-kind
+  with-kind-same kinds.Configure rest = with-body-same kinds.Configure rest
+  with-kind-same (kinds.InFlight kind) rest = with-body-same (kinds.InFlight kind) rest
+  with-kind-same kinds.Unknown rest = refl
 
-  wind-record-same : (g h : Guidance) → Alike g h → SameVerdict (wind-record c g) (wind-record d h)
-  unfolding wind-record
-  wind-record-same Unconfigured Unconfigured e = refused-same NotConfigured
-  wind-record-same Unconfigured (Configured h) e = absurd e
-  wind-record-same (Configured g) Unconfigured e = absurd e
-  wind-record-same (Configured g) (Configured h) e = record { same-answer = ap wind-answer (wind-same g h e); alike = a }
-
-  checked-same : (g h : CopterGuidance) → norm-craft g ≡ norm-craft h → (command : Command) (unmarked late headed : Bool)
-      → SameVerdict
-      (called
-      (cond unmarked (readiness.Refused Mark)
-      (cond late (readiness.Refused TimeStep) (cond headed (readiness.Call g (float-at body 0) (state-at body 4)) (readiness.Refused Heading))))
-      c command)
-      (called
-      (cond unmarked (readiness.Refused Mark)
-      (cond late (readiness.Refused TimeStep) (cond headed (readiness.Call h (float-at body 0) (state-at body 4)) (readiness.Refused Heading))))
-      d command)
-  unfolding called
-  checked-same g h e command true late headed = refused-same Mark
-  checked-same g h e command false true headed = refused-same TimeStep
-  checked-same g h e command false false false = refused-same Heading
-  checked-same g h e command false false true = guided-same _ _ (guide-same g h (float-at body 0) (state-at body 4) command e)
-
-  called-same : (g h : Guidance) → Alike g h → (marks : Bool) (command : Command)
-      → SameVerdict (called (checked g body marks) c command) (called (checked h body marks) d command)
-  unfolding checked called
-  called-same Unconfigured Unconfigured e marks command = refused-same NotConfigured
-  called-same Unconfigured (Configured h) e marks command = absurd e
-  called-same (Configured g) Unconfigured e marks command = absurd e
-  called-same (Configured g) (Configured h) e marks command =
-      checked-same g h e command (not marks) (not (time-step-ok (float-at body 0))) (heading-ok (state-at body 4 .«heading_rad»))
-
-  of-kind-same : (kind : ℕ) → SameVerdict (of-kind kind c body) (of-kind kind d body)
-  unfolding of-kind
-  of-kind-same kind =
-      let by-call = called-same (c .guidance) (d .guidance) a in
-      either-same (eqb kind 1) configure-same
-      (either-same (eqb kind 2) (prime-record-same (c .guidance) (d .guidance) a)
-      (either-same (eqb kind 3) (by-call true (commands.Attitude (attitude-command body)))
-      (either-same (eqb kind 4) (rate-record-same (c .guidance) (d .guidance) a)
-      (either-same (eqb kind 5) (by-call (marks-ok body) (commands.Waypoint (waypoint-command body)))
-      (either-same (eqb kind 6) (by-call true (commands.AbsoluteAttitude (absolute-attitude-command body)))
-      (either-same (eqb kind 7) (by-call true (commands.Land (land-command body)))
-      (either-same (eqb kind 8) (by-call true (commands.AbsoluteRate (absolute-rate-command body)))
-      (wind-record-same (c .guidance) (d .guidance) a))))))))
+  judged-same : (bytes : List ℕ) → norm-judged (judged a bytes) ≡ norm-judged (judged b bytes)
+  unfolding judged
+  judged-same bytes =
+      unless-same (eqb (length bytes) 0) (untaken refusals.Short) _ _ (with-kind-same (kind-of (byte-at bytes 0)) (drop 1 bytes))
 
 -- ---- each entry and each list
 
-record SameOutcome (o p : Outcome) : Type 0 where
-  pub same-reply : reply o ≡ reply p
-  pub alike : Alike (o .craft .guidance) (p .craft .guidance)
+answered-normed : (craft : Craft) (verdict : Verdict) (taken : ℕ) (buffer : List ℕ)
+    → norm-outcome (answered craft (record { verdict = verdict; taken = taken }) buffer)
+    ≡ answered (normed craft) (record { verdict = norm-verdict verdict; taken = taken }) buffer
+unfolding answered craft-after answer-of
+answered-normed craft (Accepted g answer) taken buffer = refl
+answered-normed craft (Refused refusal) taken buffer = refl
 
-either-outcome : (b : Bool) {o p q r : Outcome} → SameOutcome o q → SameOutcome p r → SameOutcome (cond b o p) (cond b q r)
-either-outcome true s t = s
-either-outcome false s t = t
+answered-same : (c d : Craft) → normed c ≡ normed d → (j k : Judged) → norm-judged j ≡ norm-judged k → (buffer : List ℕ)
+    → norm-outcome (answered c j buffer) ≡ norm-outcome (answered d k buffer)
+answered-same c d same j k alike buffer =
+    answered-normed c (j .verdict) (j .taken) buffer
+    ∙ (λ i. answered (same i) (alike i) buffer)
+    ∙ sym (answered-normed d (k .verdict) (k .taken) buffer)
 
-answered-same : (v w : Verdict) (taken : ℕ) (buffer : List ℕ) → SameVerdict v w → SameOutcome (answered v taken buffer) (answered w taken buffer)
-unfolding answered
-answered-same v w taken buffer s =
-    record {
-      same-reply =
-          λ i.
-          record {
-            answer = s .same-answer i;
-            taken = taken;
-            written = length (answer-bytes (s .same-answer i));
-            buffer = answer-bytes (s .same-answer i) ++ drop (length (answer-bytes (s .same-answer i))) buffer;
-          };
-      alike = s .alike;
-    }
+outcome-same : (c d : Craft) → normed c ≡ normed d → (entry : Entry) → norm-outcome (outcome c entry) ≡ norm-outcome (outcome d entry)
+unfolding step
+outcome-same c d same entry =
+    let alike = judged-same (c .guidance) (d .guidance) (ap (λ (n : Craft). n .guidance) same) (entry .bytes) in
+    answered-same c d same _ _ (unless-same (ltb (length (entry .buffer)) answer-room) (untaken refusals.NoRoom) _ _ alike) (entry .buffer)
 
-step-same : (c d : Craft) → Alike (c .guidance) (d .guidance) → (entry : Entry) → SameOutcome (outcome c entry) (outcome d entry)
-unfolding step with-kind
-step-same c d a entry =
-    let refused : (refusal : Refusal) → SameOutcome (answered (refuse c refusal) 0 (entry .buffer)) (answered (refuse d refusal) 0 (entry .buffer)) =
-    λ refusal. answered-same _ _ 0 (entry .buffer) (refused-same c d a [] refusal) in
-    either-outcome (ltb (length (entry .buffer)) 25) (refused NoRoom)
-    (either-outcome (eqb (length (entry .bytes)) 0) (refused Short)
-    (either-outcome (ltb (kind-of entry) 1) (refused Kind)
-    (either-outcome (ltb 9 (kind-of entry)) (refused Kind)
-    (either-outcome (ltb (length (drop 1 (entry .bytes))) (body-length (kind-of entry))) (refused Short)
-    (answered-same _ _ _ (entry .buffer) (of-kind-same c d a (body-of entry) (kind-of entry)))))))
-
-pub alike-replies : (c d : Craft) → Alike (c .guidance) (d .guidance) → (entries : List Entry) → replies c entries ≡ replies d entries
+pub alike-replies : (c d : Craft) → normed c ≡ normed d → (entries : List Entry) → replies c entries ≡ replies d entries
 unfolding replies
-alike-replies c d a [] = refl
-alike-replies c d a (entry ∷ entries) =
-    let s = step-same c d a entry in
-    let rest = alike-replies (outcome c entry .craft) (outcome d entry .craft) (s .alike) entries in
-    λ i. s .same-reply i ∷ rest i
+alike-replies c d same [] = refl
+alike-replies c d same (entry ∷ entries) =
+    let alike = outcome-same c d same entry in
+    let rest = alike-replies (outcome c entry .craft) (outcome d entry .craft) (ap (λ (o : Outcome). o .craft) alike) entries in
+    λ i. reply (alike i) ∷ rest i
 
--- ---- an accepted entry is handled by its kind
+-- ---- an accepted record of a kind in flight
 
-abbrev taken-on : Answer → Type 0
-taken-on answer = T (accepted answer)
+-- the input, where a body says one
+abbrev Says : Input → Read → Type 0
+Says input (reading.Input said) = said ≡ input
+Says input (reading.Refused refusal) = Unit {0}
 
-past-refusal : (P : Craft → Craft → Type 0) (b : Bool) (c d : Craft) (refusal : Refusal) (buffer : List ℕ) (o p : Outcome)
-    → (taken-on (o .answer) → P (o .craft) (p .craft))
-    → taken-on (cond b (answered (refuse c refusal) 0 buffer) o .answer)
-    → P (cond b (answered (refuse c refusal) 0 buffer) o .craft) (cond b (answered (refuse d refusal) 0 buffer) p .craft)
-unfolding answered
-past-refusal P true c d refusal buffer o p h t = absurd t
-past-refusal P false c d refusal buffer o p h t = h t
+call-says : (command : Command) (dt : Float) (state : VehicleState)
+    → Says (inputs.Call dt state command) (call-input (commanded.Command command) dt state)
+call-says command dt state = by-checks (Says (inputs.Call dt state command)) command dt state (λ in-time headed. refl) (λ refusal. tt)
 
-accepted-entry : (P : Craft → Craft → Type 0) (c d : Craft) (entry : Entry)
-    → (taken-on (of-kind (kind-of entry) c (body-of entry) .answer)
-    → P (of-kind (kind-of entry) c (body-of entry) .craft) (of-kind (kind-of entry) d (body-of entry) .craft))
-    → taken-on (outcome c entry .answer) → P (outcome c entry .craft) (outcome d entry .craft)
-unfolding step with-kind answered
-accepted-entry P c d entry h =
-    past-refusal P (ltb (length (entry .buffer)) 25) c d NoRoom (entry .buffer) _ _
-    (past-refusal P (eqb (length (entry .bytes)) 0) c d Short (entry .buffer) _ _
-    (past-refusal P (ltb (kind-of entry) 1) c d Kind (entry .buffer) _ _
-    (past-refusal P (ltb 9 (kind-of entry)) c d Kind (entry .buffer) _ _
-    (past-refusal P (ltb (length (drop 1 (entry .bytes))) (body-length (kind-of entry))) c d Short (entry .buffer) _ _ h))))
+prime-says : (state : VehicleState) → Says (inputs.Prime state) (prime-input state)
+unfolding prime-input
+prime-says state = by-test (Says (inputs.Prime state)) (heading-ok (state .«heading_rad»)) (λ headed. refl) (λ turned. tt)
+
+told-accepted : (guidance : Guidance) (said : Read) (input : Input) → Says input said → T (accepted (answer-of (told guidance said)))
+    → (g : CopterGuidance) × (guidance ≡ Configured g) × (said ≡ reading.Input input)
+unfolding answer-of told
+told-accepted Unconfigured said input says none = absurd none
+told-accepted (Configured g) (reading.Input other) input says some = (g, refl, ap reading.Input says)
+told-accepted (Configured g) (reading.Refused refusal) input says none = absurd none
+
+-- The craft is configured, and every configured craft performs the input.
+record Performs (craft : Craft) (entry : Entry) (input : Input) : Type 0 where
+  pub before : CopterGuidance
+  pub holds : craft ≡ configured before
+  pub leaves : (g : CopterGuidance) → outcome (configured g) entry .craft ≡ configured (record { config = g .config; memory = perform g input .memory })
+
+accepted-performs : (craft : Craft) (entry : Entry) → feed.Accepted craft entry → (kind : InFlight) → kind-of (kind-byte entry) ≡ kinds.InFlight kind
+    → (input : Input) → Says input (read kind (body-of entry)) → Performs craft entry input
+unfolding answered told craft-after
+accepted-performs craft entry accepts kind is input says =
+    let complete = accepted-complete craft (entry .bytes) (entry .buffer) accepts in
+    let by-kind : (c : Craft) → _ = λ c. complete-told c (entry .bytes) (entry .buffer) complete kind is in
+    let (g, holds, said) = told-accepted (craft .guidance) (read kind (body-of entry)) input says (rw (by-kind craft) at accepts) in
+    record {
+      before = g;
+      holds = λ i. record { guidance = holds i };
+      leaves = λ g. rw (by-kind (configured g), said);
+    }
 
 -- ---- the ending call
 
 -- all but the heading target and the wind memory is as fresh, and the heading target is the wrapped heading
-record Forgot (heading : Float) (g : Guidance) : Type 0 where
-  pub alike : Alike g (reset-guidance g (heading-held g))
-  pub wrapped : T (finite heading) → heading-held g ≡ wrap-angle heading
-
-fresh-lateral : norm-lateral (fresh .lateral) ≡ fresh .lateral
-unfolding norm
-fresh-lateral = ap (λ (m : Memory). m .lateral) norm-fresh
-
-reset-memory-normed : (heading : Float) (wind : HoverWind)
-    → fresh-with heading wind
-    ≡ norm
-    (record {
-      vertical = fresh .vertical;
-      lateral = fresh .lateral;
-      «heading_rad» = heading;
-      «leg_heading» = fresh .«leg_heading»;
-      wind = wind;
-    })
-unfolding norm fresh-with fresh
-reset-memory-normed heading wind = rw fresh-lateral
+record Forgot (heading : Float) (craft : Craft) : Type 0 where
+  pub alike : normed craft ≡ normed (reset craft (heading-held (craft .guidance)))
+  pub wrapped : T (finite heading) → heading-held (craft .guidance) ≡ wrap-angle heading
 
 piloted-forgot : (self : Memory) (config : CopterGuidanceConfig) (dt : Float) (state : VehicleState) (target heading : Float)
     → (T (finite heading) → target ≡ wrap-angle heading)
-    → Forgot heading (Configured (record { config = config; memory = piloted self config dt state target }))
-unfolding norm-craft piloted
+    → Forgot heading (configured (record { config = config; memory = piloted self config dt state target }))
+unfolding norm-craft piloted fresh-with fresh
 piloted-forgot self config dt state target heading h =
-    let left = piloted-leaves-fresh self config dt state target ∙ reset-memory-normed target (piloted self config dt state target .wind) in
-    record { alike = λ i. record { config = config; memory = left i }; wrapped = h }
+    let left = piloted-leaves-fresh self config dt state target ∙ sym (norm-fresh target (wind-updated self config dt state)) in
+    record { alike = λ i. configured (record { config = config; memory = left i }); wrapped = h }
 
 commanded-wrapped : (kept commanded estimate : Float) → T (fits binary32 commanded) → T (finite commanded)
     → heading-target kept (command-heading kept commanded) estimate ≡ wrap-angle commanded
@@ -268,54 +230,41 @@ estimate-wrapped : (kept estimate : Float) → T (finite estimate) → followed-
 unfolding followed-heading
 estimate-wrapped kept estimate q = rw (is-true (finite estimate) q)
 
-float-at-fits : (body : List ℕ) (at : ℕ) → T (fits binary32 (float-at body at))
-unfolding float-at
-float-at-fits body at = ofBits-fits binary32 _
+module _ (craft : Craft) (entry : Entry) (accepts : feed.Accepted craft entry) where
+  abbrev dt : Float
+  dt = float-at (body-of entry) 0
 
-module _ (heading : Float) (c : Craft) (body : List ℕ) (command : Command)
-    (leaves : (g : CopterGuidance) → Forgot heading (Configured (guide-call g (float-at body 0) (state-at body 4) command .craft))) where
-  checked-forgot : (g : CopterGuidance) (late headed : Bool)
-      → taken-on (called (cond late (readiness.Refused TimeStep) (cond headed (readiness.Call g (float-at body 0) (state-at body 4)) (readiness.Refused Heading))) c command .answer)
-      → Forgot heading (called (cond late (readiness.Refused TimeStep) (cond headed (readiness.Call g (float-at body 0) (state-at body 4)) (readiness.Refused Heading))) c command .craft .guidance)
-  unfolding called guided
-  checked-forgot g true headed t = absurd t
-  checked-forgot g false false t = absurd t
-  checked-forgot g false true t = leaves g
+  abbrev estimated : VehicleState
+  estimated = state-at (body-of entry) state-start
 
-  called-forgot : (g : Guidance) → taken-on (called (checked g body true) c command .answer)
-      → Forgot heading (called (checked g body true) c command .craft .guidance)
-  unfolding checked called
-  called-forgot Unconfigured t = absurd t
-  called-forgot (Configured g) t = checked-forgot g (not (time-step-ok (float-at body 0))) (heading-ok (state-at body 4 .«heading_rad»)) t
+  abbrev command-part : List ℕ
+  command-part = drop command-start (body-of entry)
 
-kind-six-forgot : (c : Craft) (body : List ℕ) → taken-on (of-kind 6 c body .answer) → Forgot (heading-of 6 body) (of-kind 6 c body .craft .guidance)
-unfolding of-kind guide-call absolute-attitude-call absolute-attitude-command
-kind-six-forgot c body =
-    called-forgot (heading-of 6 body) c body (commands.AbsoluteAttitude (absolute-attitude-command body))
-    (λ g. piloted-forgot (g .memory) (g .config) (float-at body 0) (state-at body 4) _ (heading-of 6 body)
-    (commanded-wrapped (g .memory .«heading_rad») (heading-of 6 body) (state-at body 4 .«heading_rad») (float-at-fits body 72)))
-    (c .guidance)
+  six-forgot : kind-byte entry ≡ 6 → Forgot (ending-heading entry) (outcome craft entry .craft)
+  unfolding kind-of read command perform guided guide-call absolute-attitude-call absolute-attitude-command
+  six-forgot six =
+      let said = absolute-attitude-command command-part in
+      let p =
+      accepted-performs craft entry accepts (flights.Call calls.AbsoluteAttitude) (ap kind-of six) _
+      (call-says (commands.AbsoluteAttitude said) dt estimated) in
+      let g = p .before in
+      rw (p .holds, p .leaves g, ap (λ (byte : ℕ). heading-of byte (body-of entry)) six)
+      (piloted-forgot (g .memory) (g .config) dt estimated _ (said .«heading_rad»)
+      (commanded-wrapped (g .memory .«heading_rad») (said .«heading_rad») (estimated .«heading_rad») (float-at-fits command-part 8)))
 
-kind-eight-forgot : (c : Craft) (body : List ℕ) → taken-on (of-kind 8 c body .answer)
-    → Forgot (heading-of 8 body) (of-kind 8 c body .craft .guidance)
-unfolding of-kind guide-call absolute-rate-call
-kind-eight-forgot c body =
-    called-forgot (heading-of 8 body) c body (commands.AbsoluteRate (absolute-rate-command body))
-    (λ g. piloted-forgot (g .memory) (g .config) (float-at body 0) (state-at body 4) _ (heading-of 8 body)
-    (estimate-wrapped (g .memory .«heading_rad») (heading-of 8 body)))
-    (c .guidance)
+  eight-forgot : kind-byte entry ≡ 8 → Forgot (ending-heading entry) (outcome craft entry .craft)
+  unfolding kind-of read command perform guided guide-call absolute-rate-call
+  eight-forgot eight =
+      let p =
+      accepted-performs craft entry accepts (flights.Call calls.AbsoluteRate) (ap kind-of eight) _
+      (call-says (commands.AbsoluteRate (absolute-rate-command command-part)) dt estimated) in
+      let g = p .before in
+      rw (p .holds, p .leaves g, ap (λ (byte : ℕ). heading-of byte (body-of entry)) eight)
+      (piloted-forgot (g .memory) (g .config) dt estimated _ (estimated .«heading_rad»)
+      (estimate-wrapped (g .memory .«heading_rad») (estimated .«heading_rad»)))
 
-ending-kind-forgot : (c : Craft) (body : List ℕ) (kind : ℕ) → (kind ≡ 6) ⊎ (kind ≡ 8) → taken-on (of-kind kind c body .answer)
-    → Forgot (heading-of kind body) (of-kind kind c body .craft .guidance)
-ending-kind-forgot c body kind (inl six) = rw six (kind-six-forgot c body)
-ending-kind-forgot c body kind (inr eight) = rw eight (kind-eight-forgot c body)
-
-ending-forgot : (c : Craft) (entry : Entry) → Ending c entry
-    → Forgot (heading-of (kind-of entry) (body-of entry)) (outcome c entry .craft .guidance)
-ending-forgot c entry e =
-    accepted-entry (λ (left other : Craft). Forgot (heading-of (kind-of entry) (body-of entry)) (left .guidance)) c c entry
-    (ending-kind-forgot c (body-of entry) (kind-of entry) (e .six-or-eight))
-    (e .accepted)
+ending-forgot : (craft : Craft) (entry : Entry) → Ending craft entry → Forgot (ending-heading entry) (outcome craft entry .craft)
+ending-forgot craft entry e = ⊎-elim (six-forgot craft entry (e .accepted)) (eight-forgot craft entry (e .accepted)) (e .six-or-eight)
 
 -- ---- a priming
 
@@ -327,63 +276,30 @@ same-wind a b e =
       same-ground = ap (λ (w : HoverWind). w .«ground_altitude_m») e;
     }
 
--- an accepted priming of two configured crafts
-accepted-priming : (P : Craft → Craft → Type 0) (c d : Craft) (g h : CopterGuidance) (body : List ℕ)
-    → P (configured (prime g (state-at body 0))) (configured (prime h (state-at body 0)))
-    → taken-on (prime-record c (Configured g) body .answer)
-    → P (prime-record c (Configured g) body .craft) (prime-record d (Configured h) body .craft)
-unfolding prime-record
-accepted-priming P c d g h body primed = go (heading-ok (state-at body 0 .«heading_rad»))
-  where
-    verdict : Bool → Craft → CopterGuidance → Verdict
-    verdict b craft g = cond b (record { craft = configured (prime g (state-at body 0)); answer = Done }) (refuse craft Heading)
+module _ (craft : Craft) (entry : Entry) (priming : Priming craft entry) where
+  primed : Performs craft entry (inputs.Prime (state-at (body-of entry) 0))
+  unfolding kind-of read
+  primed =
+      accepted-performs craft entry (priming .accepted) flights.Prime (ap kind-of (priming .kind-two)) _
+      (prime-says (state-at (body-of entry) 0))
 
-    go : (b : Bool) → taken-on (verdict b c g .answer) → P (verdict b c g .craft) (verdict b d h .craft)
-    go true t = primed
-    go false t = absurd t
+  priming-grounded : above-ground (craft .guidance) (state-at (body-of entry) 0) ≡ false
+      → SameWind (wind-held (outcome craft entry .craft .guidance)) (wind-held (outcome (made-fresh craft) entry .craft .guidance))
+  unfolding perform prime new-craft fresh
+  priming-grounded low =
+      let g = primed .before in
+      let e = rw (primed .holds) at low in
+      rw (primed .holds, primed .leaves g, primed .leaves (new-craft (g .config)))
+      (same-wind _ _ (prime-grounded (g .memory .wind) (g .config .guidance .«airborne_height_m») (state-at (body-of entry) 0) e))
 
-record-grounded : (c d : Craft) (body : List ℕ) (g : Guidance) → above-ground g (state-at body 0) ≡ false → taken-on (prime-record c g body .answer)
-    → SameWind (wind-held (prime-record c g body .craft .guidance)) (wind-held (prime-record d (fresh-guidance g) body .craft .guidance))
-unfolding prime-record prime new-craft fresh
-record-grounded c d body Unconfigured e t = absurd t
-record-grounded c d body (Configured g) e t =
-    accepted-priming (λ (left other : Craft). SameWind (wind-held (left .guidance)) (wind-held (other .guidance))) c d g (new-craft (g .config)) body
-    (same-wind _ _ (prime-grounded (g .memory .wind) (g .config .guidance .«airborne_height_m») (state-at body 0) e))
-    t
-
-record-airborne : (c : Craft) (body : List ℕ) (g : Guidance) → above-ground g (state-at body 0) ≡ true → taken-on (prime-record c g body .answer)
-    → SameWind (wind-held (prime-record c g body .craft .guidance)) (wind-held g)
-unfolding prime-record prime
-record-airborne c body Unconfigured e t = absurd t
-record-airborne c body (Configured g) e t =
-    accepted-priming (λ (left other : Craft). SameWind (wind-held (left .guidance)) (g .memory .wind)) c c g g body
-    (same-wind _ _ (prime-airborne (g .memory .wind) (g .config .guidance .«airborne_height_m») (state-at body 0) e))
-    t
-
-kind-two-grounded : (c : Craft) (body : List ℕ) (kind : ℕ) → kind ≡ 2 → above-ground (c .guidance) (state-at body 0) ≡ false
-    → taken-on (of-kind kind c body .answer)
-    → SameWind (wind-held (of-kind kind c body .craft .guidance)) (wind-held (of-kind kind (made-fresh c) body .craft .guidance))
-unfolding of-kind
-kind-two-grounded c body kind two e = rw two (record-grounded c (made-fresh c) body (c .guidance) e)
-
-kind-two-airborne : (c : Craft) (body : List ℕ) (kind : ℕ) → kind ≡ 2 → above-ground (c .guidance) (state-at body 0) ≡ true
-    → taken-on (of-kind kind c body .answer) → SameWind (wind-held (of-kind kind c body .craft .guidance)) (wind-held (c .guidance))
-unfolding of-kind
-kind-two-airborne c body kind two e = rw two (record-airborne c body (c .guidance) e)
-
-priming-grounded : (c : Craft) (entry : Entry) → Priming c entry → above-ground (c .guidance) (state-at (body-of entry) 0) ≡ false
-    → SameWind (wind-held (outcome c entry .craft .guidance)) (wind-held (outcome (made-fresh c) entry .craft .guidance))
-priming-grounded c entry p e =
-    accepted-entry (λ (left other : Craft). SameWind (wind-held (left .guidance)) (wind-held (other .guidance))) c (made-fresh c) entry
-    (kind-two-grounded c (body-of entry) (kind-of entry) (p .kind-two) e)
-    (p .accepted)
-
-priming-airborne : (c : Craft) (entry : Entry) → Priming c entry → above-ground (c .guidance) (state-at (body-of entry) 0) ≡ true
-    → SameWind (wind-held (outcome c entry .craft .guidance)) (wind-held (c .guidance))
-priming-airborne c entry p e =
-    accepted-entry (λ (left other : Craft). SameWind (wind-held (left .guidance)) (wind-held (c .guidance))) c c entry
-    (kind-two-airborne c (body-of entry) (kind-of entry) (p .kind-two) e)
-    (p .accepted)
+  priming-airborne : above-ground (craft .guidance) (state-at (body-of entry) 0) ≡ true
+      → SameWind (wind-held (outcome craft entry .craft .guidance)) (wind-held (craft .guidance))
+  unfolding perform prime
+  priming-airborne high =
+      let g = primed .before in
+      let e = rw (primed .holds) at high in
+      rw (primed .holds, primed .leaves g)
+      (same-wind _ _ (prime-airborne (g .memory .wind) (g .config .guidance .«airborne_height_m») (state-at (body-of entry) 0) e))
 
 -- ---- the port and the machine
 
@@ -407,22 +323,6 @@ port-answers-as-machine c (entry ∷ entries) (link ∷ links) f =
     port-answers-as-machine (link .handled .craft) entries links (f .1) ∙ ap (λ (o : Outcome). replies (o .craft) entries) (f .0) in
     λ i. reply (f .0 i) ∷ rest i
 
--- Every list can be fed: the links that hold what the machine gives are the port's.
-unfoldable pub links-of : Craft → List Entry → List Link
-links-of c [] = []
-links-of c (entry ∷ entries) =
-    let o = outcome c entry in
-    record {
-      handled = record { craft = o .craft; answer = o .answer; taken = o .taken; written = o .written };
-      left = o .buffer;
-    }
-    ∷ links-of (outcome c entry .craft) entries
-
-pub links-are-fed : (c : Craft) (entries : List Entry) → Fed c entries (links-of c entries)
-unfolding Fed links-of reported
-links-are-fed c [] = tt
-links-are-fed c (entry ∷ entries) = (refl, links-are-fed (outcome c entry .craft) entries)
-
 after-last : (c : Craft) (entries : List Entry) (entry : Entry) → after c (entries ++ (entry ∷ [])) ≡ outcome (after c entries) entry .craft
 unfolding after
 after-last c [] entry = refl
@@ -432,12 +332,12 @@ after-last c (first ∷ entries) entry = after-last (outcome c first .craft) ent
 
 module _ (first : List Entry) (ending : Entry) (last : List Entry) (before later : List Link)
     (fed : Fed unconfigured (first ++ (ending ∷ [])) before) (fed-later : Fed (given-back unconfigured before) last later)
-    (e : Ending (after unconfigured first) ending) where
+    (e : Ending (machine first) ending) where
   abbrev held : Craft
-  held = after unconfigured (first ++ (ending ∷ []))
+  held = machine (first ++ (ending ∷ []))
 
-  forgot : Forgot (heading-of (kind-of ending) (body-of ending)) (held .guidance)
-  forgot = rw (after-last unconfigured first ending) (ending-forgot (after unconfigured first) ending e)
+  forgot : Forgot (ending-heading ending) held
+  forgot = rw (after-last unconfigured first ending) (ending-forgot (machine first) ending e)
 
   replies-as-reset : port-replies later ≡ replies (reset held (heading-held (held .guidance))) last
   replies-as-reset =
@@ -445,12 +345,12 @@ module _ (first : List Entry) (ending : Entry) (last : List Entry) (before later
       ∙ ap (λ (c : Craft). replies c last) (given-back-is-held unconfigured (first ++ (ending ∷ [])) before fed)
       ∙ alike-replies held (reset held (heading-held (held .guidance))) (forgot .alike) last
 
-  replies-as-reset-wrapped : T (finite (heading-of (kind-of ending) (body-of ending)))
-      → port-replies later ≡ replies (reset held (wrap-angle (heading-of (kind-of ending) (body-of ending)))) last
+  replies-as-reset-wrapped : T (finite (ending-heading ending))
+      → port-replies later ≡ replies (reset held (wrap-angle (ending-heading ending))) last
   replies-as-reset-wrapped q = replies-as-reset ∙ ap (λ (heading : Float). replies (reset held heading) last) (forgot .wrapped q)
 
 given-back-is-outcome : (first : List Entry) (entry : Entry) (before : List Link) → Fed unconfigured (first ++ (entry ∷ [])) before
-    → given-back unconfigured before ≡ outcome (after unconfigured first) entry .craft
+    → given-back unconfigured before ≡ outcome (machine first) entry .craft
 given-back-is-outcome first entry before fed =
     given-back-is-held unconfigured (first ++ (entry ∷ [])) before fed ∙ after-last unconfigured first entry
 
@@ -461,8 +361,8 @@ whole-feeds =
       ending-call-forgets-all-but-heading = replies-as-reset;
       priming-forgets =
           λ first priming before fed p e.
-          rw (given-back-is-outcome first priming before fed) (priming-grounded (after unconfigured first) priming p e);
+          rw (given-back-is-outcome first priming before fed) (priming-grounded (machine first) priming p e);
       priming-above-keeps =
           λ first priming before fed p e.
-          rw (given-back-is-outcome first priming before fed) (priming-airborne (after unconfigured first) priming p e);
+          rw (given-back-is-outcome first priming before fed) (priming-airborne (machine first) priming p e);
     }

@@ -1,354 +1,454 @@
--- Demand 1 holds: `total`. Each check of a record is followed to its answer, once for whether it is accepted and once for what a refusal leaves.
+-- Demand 1 holds: `total`. The checks of a record are followed to its answer, kind by kind, and what a refusal leaves to what the record comes to.
 -- Assumes nothing.
 use Prim.Native.Nat.{ℕ, zero, suc, _+_, _-_, _*_, _≤_, _<_}
-use mathlib.Core.Path.{_≡_, refl, sym, _∙_}
-use mathlib.Core.Bool.{Bool, true, false, not, cond, _&&_, true≢false}
-use mathlib.Core.List.{List}
+use mathlib.Core.Path.{_≡_, refl, sym, ap, subst, _∙_}
+use mathlib.Core.Bool.{Bool, true, false, not, cond, _&&_, _||_, true≢false}
+use mathlib.Core.Logic.{_↔_}
+use mathlib.Core.List.{List, [], _∷_, _++_}
+use mathlib.Core.Option.{Option, none, some}
 use native.Mathlib.Omega.{arith}
-use borrow.Author.Tests.{ltb-true, ltb-false, leb-true, leb-false, not-true, not-false}
-use lib.Dec.{leb, ltb, eqb}
-use lib.ListN.{length, take, drop}
-use lib.Ieee.{Float}
-use Rattle.wind.specs.declared.window.Filter.{Filter}
-use Rattle.wind.specs.declared.window.Filter.the-variants as filters
-use Rattle.wind.specs.declared.state.VehicleState.{VehicleState}
-use Rattle.copter.specs.Config.{rule}
-use Rattle.copter.specs.Guide.{guide-call, wind-reading}
-use Rattle.copter.specs.declared.memory.CopterGuidance.{CopterGuidance}
+use native.Mathlib.Nat.{add-assoc}
+use borrow.Author.Tests.{le-leb, lt-leb, le-ltb, ne-eqb, not-true, not-false}
+use lib.Dec.{T, leb, ltb, eqb}
+use lib.ListN.{length, take, drop, length-drop}
+use lib.Seq.{getD-drop}
+use lib.Ieee.{Float, nan, le}
+use lib.Ieee.Bits.{is-true}
+use lib.Ieee.Scale.{finite}
+use Rattle.floats.specs.Compare.{abs}
+use Rattle.copter.specs.Config.{field-count, nth, rule, lowest, config-of, Valid}
+use Rattle.copter.proofs.Laws.Config.{EachKeeps, kept-is-valid, here-or-later}
+use Rattle.copter.specs.declared.config.CopterGuidanceConfig.{CopterGuidanceConfig}
 use Rattle.copter.specs.declared.commands.Command.{Command}
-use Rattle.copter.specs.declared.commands.Setpoint.{Setpoint}
-use Rattle.copter.specs.declared.commands.Setpoint.the-variants as setpoints
-use Rattle.copter.specs.declared.commands.Flags.{Flags}
-use Rattle.copter.specs.declared.guide.Guided.{Guided}
 use Rattle.records.specs.declared.craft.Guidance.{Guidance}
 use Rattle.records.specs.declared.craft.Guidance.the-variants.{Unconfigured, Configured}
 use Rattle.records.specs.declared.craft.Craft.{Craft}
 use Rattle.records.specs.declared.answer.Refusal.{Refusal}
-use Rattle.records.specs.declared.answer.Refusal.the-variants.{Field, TimeStep, Heading, Rate, Kind, Short, NotConfigured, Mark, NoRoom}
-use Rattle.records.specs.Ready as readiness
-use Rattle.records.specs.Answer.{number, refusal-bytes, answer-bytes, accepted}
-use Rattle.records.specs.Read.{byte-at, float-at, state-at}
-use Rattle.records.specs.Step.{Verdict, Outcome, lowest, time-step-ok, heading-ok, marks-ok, refuse, setpoint-answer, guided, configure, prime-record, checked, called, rate-record, wind-answer, wind-record, of-kind, body-length, answered, with-kind, step}
-use Rattle.records.proofs.Laws.Counts.{by-test}
-use Rattle.records.specs.Total.{has-craft, fields-ok, call-ok, body-ok, record-ok, Keeps, takes-none, Refusing, Total}
+use Rattle.records.specs.declared.answer.Refusal.the-variants as refusals
+use Rattle.records.specs.declared.kinds.Call.the-variants as calls
+use Rattle.records.specs.declared.kinds.InFlight.{InFlight}
+use Rattle.records.specs.declared.kinds.InFlight.the-variants as flights
+use Rattle.records.specs.declared.kinds.Kind.{Kind}
+use Rattle.records.specs.declared.kinds.Kind.the-variants as kinds
+use Rattle.records.specs.declared.read.Read.{Read}
+use Rattle.records.specs.declared.read.Read.the-variants as reading
+use Rattle.records.specs.declared.read.CommandRead.the-variants as commanded
+use Rattle.records.specs.declared.read.Configuration.the-variants.{Of, Broken}
+use Rattle.records.specs.declared.read.Input.{Input}
+use Rattle.records.specs.declared.read.Input.the-variants as inputs
+use Rattle.records.specs.Answer.{number, field-of, refusal-of, is-none, accepted, refusal-bytes, answer-bytes}
+use Rattle.records.specs.Layout.{byte-at, float-at, floats-from}
+use Rattle.records.specs.Kinds.{kind-of, body-length, state-start, command-start}
+use Rattle.records.specs.Read.{command, state, state-at, marks-ok, time-step-ok, heading-limit, heading-ok, configuration, prime-input, call-input, read}
+use Rattle.records.specs.Step.{Verdict, Accepted, Refused, configure, told, serve}
+use Rattle.records.specs.Step.{Judged, untaken, with-body, with-kind, judged, answer-of, craft-after, answered, answer-room, step}
+use Rattle.records.specs.Total.{Reason, because, broken, reason, reason-in, reason-of, no-reason, Check, check, first-failing, no-craft}
+use Rattle.records.specs.Total.{fields-kept, out-of-range, too-large, step-and-heading, own-checks, checks, why, Numbered}
+use Rattle.records.specs.Total.{Accepting, Configures, fields-in, config-in, Keeps, Lowest, takes-none, Refusing, Total}
+use Rattle.records.proofs.Laws.Layout.{floats-at}
+use Rattle.records.proofs.Laws.Counts.{answer-short, by-test, neither, unknown, unknown-byte, served, judged-cases, complete-served, accepted-complete}
+use Rattle.records.proofs.Laws.Counts.{perform-accepted, TakesRecord, serve-takes}
 
--- ---- what is accepted, kind by kind
+-- ---- places in a body
 
-abbrev ok : Verdict → Bool
-ok verdict = accepted (verdict .answer)
+float-at-drop : (n at : ℕ) (bytes : List ℕ) → float-at (drop n bytes) at ≡ float-at bytes (n + at)
+unfolding float-at
+float-at-drop n at bytes = simp (getD-drop, add-assoc)
 
--- either of two verdicts
-either : (b : Bool) (v w : Verdict) (p q : Bool) → ok v ≡ p → ok w ≡ q → ok (cond b v w) ≡ cond b p q
-either true v w p q first second = first
-either false v w p q first second = second
+-- the heading of a state, and of one that starts at byte 4; the marks of a command that starts at byte 64
+heading-of-state : (body : List ℕ) → state body .«heading_rad» ≡ float-at body 56
+unfolding state
+heading-of-state body = refl
 
--- accepted if the test holds
-accepted-if : (b : Bool) (v w : Verdict) → ok v ≡ true → ok w ≡ false → ok (cond b v w) ≡ b
-accepted-if true v w first second = first
-accepted-if false v w first second = second
+heading-of-call : (body : List ℕ) → state-at body state-start .«heading_rad» ≡ float-at body 60
+heading-of-call body = heading-of-state (drop 4 body) ∙ float-at-drop 4 56 body
 
--- refused if the test holds
-refused-if : (b : Bool) (v w : Verdict) → ok v ≡ false → ok w ≡ true → ok (cond b v w) ≡ not b
-refused-if true v w first second = first
-refused-if false v w first second = second
+-- ---- the limits
 
--- a refusal if the test holds, and more to ask if it fails
-asked-next : (b : Bool) (v w : Outcome) (q : Bool) → accepted (v .answer) ≡ false → accepted (w .answer) ≡ q → accepted (cond b v w .answer) ≡ not b && q
-asked-next true v w q first second = first
-asked-next false v w q first second = second
+not-in-range : (dt : Float) → not (time-step-ok dt) ≡ out-of-range dt
+unfolding time-step-ok
+not-in-range dt = refl
 
-setpoint-accepted : (setpoint : Setpoint) (flags : Flags) → accepted (setpoint-answer setpoint flags) ≡ true
-unfolding setpoint-answer
-setpoint-accepted (setpoints.Attitude s) flags = refl
-setpoint-accepted (setpoints.BodyRate s) flags = refl
+neither-nor : (a b : Bool) → not (not a || b) ≡ a && not b
+neither-nor true b = refl
+neither-nor false b = refl
 
-guided-accepted : (g : Guided) → ok (guided g) ≡ true
-unfolding guided
-guided-accepted g = setpoint-accepted (g .setpoint) (g .flags)
+not-large : (heading : Float) → not (heading-ok heading) ≡ too-large heading
+unfolding heading-ok
+not-large heading = neither-nor (finite heading) (le (abs heading) heading-limit)
 
-configure-accepted : (craft : Craft) (body : List ℕ) → ok (configure craft body) ≡ fields-ok body
-unfolding configure
-configure-accepted craft body = refused-if (leb (lowest body 1 50) 50) _ _ refl refl
-
-prime-accepted : (craft : Craft) (guidance : Guidance) (body : List ℕ) →
-    ok (prime-record craft guidance body) ≡ has-craft guidance && heading-ok (state-at body 0 .«heading_rad»)
-unfolding prime-record
-prime-accepted craft Unconfigured body = refl
-prime-accepted craft (Configured g) body = accepted-if (heading-ok (state-at body 0 .«heading_rad»)) _ _ refl refl
-
--- the last two checks of a call
-checks-accepted : (t h : Bool) (craft : Craft) (g : CopterGuidance) (dt : Float) (state : VehicleState) (command : Command) →
-    ok (called (cond (not t) (readiness.Refused TimeStep) (cond h (readiness.Call g dt state) (readiness.Refused Heading))) craft command) ≡ t && h
-unfolding called
-checks-accepted false h craft g dt state command = refl
-checks-accepted true false craft g dt state command = refl
-checks-accepted true true craft g dt state command = guided-accepted (guide-call g dt state command)
-
-call-accepted : (craft : Craft) (guidance : Guidance) (body : List ℕ) (marks : Bool) (command : Command) →
-    ok (called (checked guidance body marks) craft command) ≡ call-ok guidance marks body
-unfolding checked called
-call-accepted craft Unconfigured body marks command = refl
-call-accepted craft (Configured g) body false command = refl
-call-accepted craft (Configured g) body true command =
-    checks-accepted (time-step-ok (float-at body 0)) (heading-ok (state-at body 4 .«heading_rad»)) craft g (float-at body 0) (state-at body 4) command
-
-rate-refused : (craft : Craft) (guidance : Guidance) → ok (rate-record craft guidance) ≡ false
-unfolding rate-record
-rate-refused craft Unconfigured = refl
-rate-refused craft (Configured g) = refl
-
-reading-accepted : (reading : Filter) → accepted (wind-answer reading) ≡ true
-reading-accepted filters.Nothing = refl
-reading-accepted (filters.Estimate estimate) = refl
-
-wind-accepted : (craft : Craft) (guidance : Guidance) → ok (wind-record craft guidance) ≡ has-craft guidance
-unfolding wind-record
-wind-accepted craft Unconfigured = refl
-wind-accepted craft (Configured g) = reading-accepted (wind-reading g)
-
-of-kind-accepted : (kind : ℕ) (craft : Craft) (body : List ℕ) → ok (of-kind kind craft body) ≡ body-ok kind (craft .guidance) body
-unfolding of-kind body-ok
-of-kind-accepted kind craft body =
-    let guidance = craft .guidance in
-    either (eqb kind 1) _ _ _ _ (configure-accepted craft body)
-    (either (eqb kind 2) _ _ _ _ (prime-accepted craft guidance body)
-    (either (eqb kind 3) _ _ _ _ (call-accepted craft guidance body true _)
-    (either (eqb kind 4) _ _ _ _ (rate-refused craft guidance)
-    (either (eqb kind 5) _ _ _ _ (call-accepted craft guidance body (marks-ok body) _)
-    (either (eqb kind 6) _ _ _ _ (call-accepted craft guidance body true _)
-    (either (eqb kind 7) _ _ _ _ (call-accepted craft guidance body true _)
-    (either (eqb kind 8) _ _ _ _ (call-accepted craft guidance body true _) (wind-accepted craft guidance))))))))
-
-accepted-exactly : (craft : Craft) (bytes buffer : List ℕ) → accepted (step craft bytes buffer .answer) ≡ record-ok craft bytes buffer
-unfolding step with-kind answered record-ok
-accepted-exactly craft bytes buffer =
-    let kind = byte-at bytes 0 in
-    let rest = drop 1 bytes in
-    let needed = body-length kind in
-    asked-next (ltb (length buffer) 25) _ _ _ refl
-    (asked-next (eqb (length bytes) 0) _ _ _ refl
-    (asked-next (ltb kind 1) _ _ _ refl
-    (asked-next (ltb 9 kind) _ _ _ refl
-    (asked-next (ltb (length rest) needed) _ _ _ refl (of-kind-accepted kind craft (take needed rest))))))
+marks-of-call : (body : List ℕ) → marks-ok (drop command-start body) ≡ leb (byte-at body 72) 1 && leb (byte-at body 89) 1
+unfolding marks-ok
+marks-of-call body = rw (getD-drop 64 body 8 0, getD-drop 64 body 25 0)
 
 -- ---- a configuration
 
-none-breaks : (body : List ℕ) (n d : ℕ) → ((i : ℕ) → n ≤ i → i < n + d → Keeps body i) → lowest body n d ≡ n + d
-unfolding lowest
-none-breaks body n zero keeps = omega arith
-none-breaks body n (suc d) keeps =
-    rw (keeps n (omega arith) (omega arith))
-    (none-breaks body (suc n) d (λ (i : ℕ) (low : suc n ≤ i) (high : i < suc n + d). keeps i (omega arith) (omega arith)) ∙ omega arith)
+-- Of the fields from n on, d of them, m breaks its rule and no lower one does.
+record LowestFrom (body : List ℕ) (n d m : ℕ) : Type 0 where
+  pub low : n ≤ m
+  pub high : m < n + d
+  pub breaks : rule m (float-at body (4 * (m - 1))) ≡ false
+  pub lower-keep : (i : ℕ) → n ≤ i → i < m → Keeps body i
 
--- Where the search from field n on finds none, field n keeps its rule and the search from the next field on finds none.
-first-keeps : (body : List ℕ) (n d : ℕ) (b : Bool) → rule n (float-at body (4 * (n - 1))) ≡ b → n + suc d ≤ cond b (lowest body (suc n) d) n → Keeps body n
-first-keeps body n d true e above = e
-first-keeps body n d false e above = absurd (omega arith)
+-- what the checks of those fields find: nothing where all keep their rules, else the lowest that does not
+abbrev Found : List ℕ → ℕ → ℕ → Option Reason → Type 0
+Found body n d none = (i : ℕ) → n ≤ i → i < n + d → Keeps body i
+Found body n d (some reason) = (m : ℕ) × (reason ≡ broken m) × LowestFrom body n d m
 
-others-searched : (body : List ℕ) (n d : ℕ) (b : Bool) → n + suc d ≤ cond b (lowest body (suc n) d) n → suc n + d ≤ lowest body (suc n) d
-others-searched body n d true above = omega arith
-others-searched body n d false above = absurd (omega arith)
+module _ (body : List ℕ) (n : ℕ) where
+  found-later : (d : ℕ) → Keeps body n → (o : Option Reason) → Found body (suc n) d o → Found body n (suc d) o
+  found-later d keeps none all =
+      λ i low high. here-or-later (Keeps body) n i low keeps (λ later. all i later (omega arith))
+  found-later d keeps (some reason) (m, is-field, lowest-later) = (
+    m,
+    is-field,
+    record {
+      low = omega arith;
+      high = omega arith;
+      breaks = lowest-later .breaks;
+      lower-keep = λ i low below. here-or-later (Keeps body) n i low keeps (λ later. lowest-later .lower-keep i later below);
+    },
+  )
 
-first-or-later : (body : List ℕ) (n i : ℕ) (b : Bool) → ltb n i ≡ b → n ≤ i → Keeps body n → (suc n ≤ i → Keeps body i) → Keeps body i
-first-or-later body n i true later low first others = others (ltb-true n i later)
-first-or-later body n i false here low first others =
-    let least = ltb-false n i here in
-    let same : i ≡ n = omega arith in
-    rw same first
+  found-here : (d : ℕ) → rule n (float-at body (4 * (n - 1))) ≡ false → Found body n (suc d) (some (broken n))
+  found-here d breaks =
+      (n, refl, record { low = omega arith; high = omega arith; breaks = breaks; lower-keep = λ i low below. absurd (omega arith) })
 
-all-keep : (body : List ℕ) (n d : ℕ) → n + d ≤ lowest body n d → (i : ℕ) → n ≤ i → i < n + d → Keeps body i
-unfolding lowest
-all-keep body n zero above i low high = absurd (omega arith)
-all-keep body n (suc d) above i low high =
+found : (body : List ℕ) (n d : ℕ) → Found body n d (first-failing (fields-kept body n d))
+unfolding first-failing fields-kept
+found body n zero = λ i low high. absurd (omega arith)
+found body n (suc d) =
     let keeps = rule n (float-at body (4 * (n - 1))) in
-    first-or-later body n i (ltb n i) refl low (first-keeps body n d keeps refl above)
-    (λ (later : suc n ≤ i). all-keep body (suc n) d (others-searched body n d keeps above) i later (omega arith))
+    let others = first-failing (fields-kept body (suc n) d) in
+    by-test (Found body n (suc d)) (not keeps) (λ fails. found-here body n d (not-true keeps fails))
+    (λ holds. found-later body n d (not-false keeps holds) others (found body (suc n) d))
 
-kept→accepted : (body : List ℕ) → ((n : ℕ) → 1 ≤ n → n ≤ 50 → Keeps body n) → fields-ok body ≡ true
-kept→accepted body keeps = rw (none-breaks body 1 50 (λ (i : ℕ) (low : 1 ≤ i) (high : i < 51). keeps i low (omega arith)))
+kept-none-fails : (body : List ℕ) → ((n : ℕ) → 1 ≤ n → n ≤ field-count → Keeps body n) → first-failing (fields-kept body 1 field-count) ≡ none
+kept-none-fails body keep = go (first-failing (fields-kept body 1 field-count)) (found body 1 field-count)
+  where
+    go : (o : Option Reason) → Found body 1 field-count o → o ≡ none
+    go none all = refl
+    go (some reason) (m, is-field, is-lowest) = absurd (true≢false (sym (keep m (is-lowest .low) (omega arith)) ∙ is-lowest .breaks))
 
-accepted→kept : (body : List ℕ) → fields-ok body ≡ true → (n : ℕ) → 1 ≤ n → n ≤ 50 → Keeps body n
-accepted→kept body none n low high =
-    let above = leb-false (lowest body 1 50) 50 (not-true (leb (lowest body 1 50) 50) none) in
-    all-keep body 1 50 (omega arith) n low (omega arith)
+pub none-fails-kept : (body : List ℕ) → first-failing (fields-kept body 1 field-count) ≡ none → (n : ℕ) → 1 ≤ n → n ≤ field-count → Keeps body n
+none-fails-kept body none-fails n low high = subst (Found body 1 field-count) none-fails (found body 1 field-count) n low (omega arith)
 
--- The search from field n on stops at a field that breaks its rule, or past the last.
-stop-breaks : (body : List ℕ) (n d : ℕ) (b : Bool) → rule n (float-at body (4 * (n - 1))) ≡ b
-    → (lowest body (suc n) d < suc n + d → rule (lowest body (suc n) d) (float-at body (4 * (lowest body (suc n) d - 1))) ≡ false)
-    → cond b (lowest body (suc n) d) n < n + suc d
-    → rule (cond b (lowest body (suc n) d) n) (float-at body (4 * (cond b (lowest body (suc n) d) n - 1))) ≡ false
-stop-breaks body n d true e later below = later (omega arith)
-stop-breaks body n d false e later below = e
+fails-lowest : (body : List ℕ) → no-reason (first-failing (fields-kept body 1 field-count)) ≡ false
+    → (n : ℕ) × (first-failing (fields-kept body 1 field-count) ≡ some (broken n)) × Lowest body n
+fails-lowest body = go (first-failing (fields-kept body 1 field-count)) (found body 1 field-count)
+  where
+    go : (o : Option Reason) → Found body 1 field-count o → no-reason o ≡ false → (n : ℕ) × (o ≡ some (broken n)) × Lowest body n
+    go none all some-fails = absurd (true≢false some-fails)
+    go (some reason) (n, is-field, is-lowest) some-fails = (
+      n,
+      ap some is-field,
+      record { low = is-lowest .low; high = omega arith; breaks = is-lowest .breaks; lower-keep = is-lowest .lower-keep },
+    )
 
-search-breaks : (body : List ℕ) (n d : ℕ) → lowest body n d < n + d → rule (lowest body n d) (float-at body (4 * (lowest body n d - 1))) ≡ false
-unfolding lowest
-search-breaks body n zero below = absurd (omega arith)
-search-breaks body n (suc d) below =
-    stop-breaks body n d (rule n (float-at body (4 * (n - 1)))) refl (search-breaks body (suc n) d) below
+-- the refusal of the field at which a search stops, none past the last
+abbrev field-refused : ℕ → ℕ → Option Reason
+field-refused last field = cond (leb field last) (some (broken field)) none
 
-lowest-breaks : (body : List ℕ) → fields-ok body ≡ false → rule (lowest body 1 50) (float-at body (4 * (lowest body 1 50 - 1))) ≡ false
-lowest-breaks body found =
-    let within = leb-true (lowest body 1 50) 50 (not-false (leb (lowest body 1 50) 50) found) in
-    search-breaks body 1 50 (omega arith)
+-- The search through the values is that through the checks.
+module _ (values : List Float) (body : List ℕ) (last : ℕ) where
+  searched : (n d : ℕ) → n + d ≡ suc last → ((i : ℕ) → n ≤ i → i ≤ last → nth values i ≡ float-at body (4 * (i - 1)))
+      → first-failing (fields-kept body n d) ≡ field-refused last (lowest values n d)
+  unfolding first-failing fields-kept lowest
+  searched n zero ends same = rw (lt-leb n last (omega arith))
+  searched n (suc d) ends same =
+      rw (same n (omega arith) (omega arith))
+      (by-rule (rule n (float-at body (4 * (n - 1))))
+      (searched (suc n) d (omega arith) (λ i low high. same i (omega arith) high)))
+    where
+      by-rule : (keeps : Bool) → first-failing (fields-kept body (suc n) d) ≡ field-refused last (lowest values (suc n) d)
+          → cond (not keeps) (some (broken n)) (first-failing (fields-kept body (suc n) d))
+          ≡ field-refused last (cond keeps (lowest values (suc n) d) n)
+      by-rule true later = later
+      by-rule false later = rw (le-leb n last (omega arith))
 
--- What is below the stop keeps its rule.
-passed-keep : (body : List ℕ) (n d i : ℕ) (b : Bool) → rule n (float-at body (4 * (n - 1))) ≡ b → n ≤ i
-    → (suc n ≤ i → i < lowest body (suc n) d → Keeps body i)
-    → i < cond b (lowest body (suc n) d) n → Keeps body i
-passed-keep body n d i true e low later below =
-    first-or-later body n i (ltb n i) refl low e (λ (past : suc n ≤ i). later past below)
-passed-keep body n d i false e low later below = absurd (omega arith)
+-- The fields that are read, by number.
+pub fields-at : (body : List ℕ) (n : ℕ) → 1 ≤ n → n ≤ field-count → nth (floats-from 0 field-count body) n ≡ float-at body (4 * (n - 1))
+fields-at body n low high = floats-at 0 field-count (n - 1) body nan (omega arith) ∙ ap (float-at body) (omega arith)
 
-search-keep : (body : List ℕ) (n d i : ℕ) → n ≤ i → i < lowest body n d → Keeps body i
-unfolding lowest
-search-keep body n zero i low below = absurd (omega arith)
-search-keep body n (suc d) i low below =
-    passed-keep body n d i (rule n (float-at body (4 * (n - 1)))) refl low (search-keep body (suc n) d i) below
+-- the same of the numbers that are read
+pub each-keeps : (body : List ℕ) → ((n : ℕ) → 1 ≤ n → n ≤ field-count → Keeps body n) → EachKeeps (floats-from 0 field-count body)
+each-keeps body keep n low high = rw (fields-at body n low high, keep n low high) tt
 
--- ---- what is refused, kind by kind
+keeps-each : (body : List ℕ) → EachKeeps (floats-from 0 field-count body) → (n : ℕ) → 1 ≤ n → n ≤ field-count → Keeps body n
+keeps-each body keep n low high =
+    is-true (rule n (float-at body (4 * (n - 1)))) (subst (λ (x : Float). T (rule n x)) (fields-at body n low high) (keep n low high))
 
--- The craft as it was, and a refusal that takes the record.
-record Kept (craft : Craft) (verdict : Verdict) : Type 0 where
-  pub refusal : Refusal
-  pub with-room : eqb (number refusal) 9 ≡ false
-  pub takes-record : takes-none refusal ≡ false
-  pub is-refusal : verdict ≡ refuse craft refusal
+pub fields-searched : (body : List ℕ)
+    → first-failing (fields-kept body 1 field-count) ≡ field-refused field-count (lowest (floats-from 0 field-count body) 1 field-count)
+fields-searched body = searched (floats-from 0 field-count body) body field-count 1 field-count refl (fields-at body)
 
-abbrev KeptIfRefused : Craft → Verdict → Type 0
-KeptIfRefused craft verdict = ok verdict ≡ false → Kept craft verdict
+-- ---- why a record is refused
 
--- either of two verdicts
-either-kept : (craft : Craft) (b : Bool) {v w : Verdict} → KeptIfRefused craft v → KeptIfRefused craft w → KeptIfRefused craft (cond b v w)
-either-kept craft b first second = by-test (KeptIfRefused craft) b (λ held. first) (λ failed. second)
+-- the reason that a verdict gives, or none
+abbrev verdict-reason : Verdict → Option Reason
+verdict-reason verdict = reason-of (answer-of verdict)
 
--- an accepted verdict is not refused
-never-refused : (craft : Craft) (verdict : Verdict) → ok verdict ≡ true → KeptIfRefused craft verdict
-never-refused craft verdict accept refusing = absurd (true≢false (sym accept ∙ refusing))
+-- The check holds, and the next one is asked; or it fails.
+asked : (fails : Bool) (refusal : Refusal) (j : Judged) (checks : List Check) → verdict-reason (j .verdict) ≡ first-failing checks
+    → verdict-reason (cond fails (untaken refusal) j .verdict) ≡ first-failing (check fails (reason refusal) ∷ checks)
+unfolding answer-of first-failing
+asked true refusal j checks others = refl
+asked false refusal j checks others = others
 
-kept : (craft : Craft) (refusal : Refusal) → eqb (number refusal) 9 ≡ false → takes-none refusal ≡ false → KeptIfRefused craft (refuse craft refusal)
-kept craft refusal room takes refusing = record { refusal = refusal; with-room = room; takes-record = takes; is-refusal = refl }
+field-searched : (fails : Bool) (field : ℕ) (config : CopterGuidanceConfig)
+    → verdict-reason (configure (cond fails (Broken field) (Of config))) ≡ cond fails (some (broken field)) none
+unfolding answer-of configure
+field-searched true field config = refl
+field-searched false field config = refl
 
-configure-kept : (craft : Craft) (body : List ℕ) → KeptIfRefused craft (configure craft body)
-unfolding configure
-configure-kept craft body =
-    either-kept craft (leb (lowest body 1 50) 50) (kept craft (Field (lowest body 1 50)) refl refl) (never-refused craft _ refl)
+configure-refused : (body : List ℕ) → verdict-reason (configure (configuration body)) ≡ first-failing (fields-kept body 1 field-count)
+unfolding configuration
+configure-refused body =
+    let values = floats-from 0 field-count body in
+    let field = lowest values 1 field-count in
+    field-searched (leb field field-count) field (config-of values) ∙ sym (fields-searched body)
 
-prime-kept : (craft : Craft) (guidance : Guidance) (body : List ℕ) → KeptIfRefused craft (prime-record craft guidance body)
-unfolding prime-record
-prime-kept craft Unconfigured body = kept craft NotConfigured refl refl
-prime-kept craft (Configured g) body =
-    either-kept craft (heading-ok (state-at body 0 .«heading_rad»)) (never-refused craft _ refl) (kept craft Heading refl refl)
+-- the reason that a body gives, or none
+abbrev reason-said : Read → Option Reason
+reason-said (reading.Input input) = none
+reason-said (reading.Refused refusal) = some (reason refusal)
 
-checks-kept : (m t h : Bool) (craft : Craft) (g : CopterGuidance) (dt : Float) (state : VehicleState) (command : Command) →
-    KeptIfRefused craft
-    (called
-    (cond (not m) (readiness.Refused Mark)
-    (cond (not t) (readiness.Refused TimeStep) (cond h (readiness.Call g dt state) (readiness.Refused Heading))))
-    craft command)
-unfolding called
-checks-kept false t h craft g dt state command = kept craft Mark refl refl
-checks-kept true false h craft g dt state command = kept craft TimeStep refl refl
-checks-kept true true false craft g dt state command = kept craft Heading refl refl
-checks-kept true true true craft g dt state command = never-refused craft _ (guided-accepted (guide-call g dt state command))
+told-refused : (guidance : Guidance) (said : Read) (checks : List Check) → reason-said said ≡ first-failing checks
+    → verdict-reason (told guidance said) ≡ first-failing (no-craft guidance ∷ checks)
+unfolding answer-of told first-failing
+told-refused Unconfigured said checks others = refl
+told-refused (Configured g) (reading.Input input) checks others = ap reason-in (perform-accepted g input) ∙ others
+told-refused (Configured g) (reading.Refused refusal) checks others = others
 
-call-kept : (craft : Craft) (guidance : Guidance) (body : List ℕ) (marks : Bool) (command : Command) →
-    KeptIfRefused craft (called (checked guidance body marks) craft command)
-unfolding checked called
-call-kept craft Unconfigured body marks command = kept craft NotConfigured refl refl
-call-kept craft (Configured g) body marks command =
-    checks-kept marks (time-step-ok (float-at body 0)) (heading-ok (state-at body 4 .«heading_rad»)) craft g (float-at body 0) (state-at body 4) command
+-- the check of a heading
+headed : (holds : Bool) (input : Input) → reason-said (cond holds (reading.Input input) (reading.Refused refusals.Heading))
+    ≡ first-failing (check (not holds) (because 3) ∷ [])
+unfolding first-failing
+headed true input = refl
+headed false input = refl
 
-rate-kept : (craft : Craft) (guidance : Guidance) → KeptIfRefused craft (rate-record craft guidance)
-unfolding rate-record
-rate-kept craft Unconfigured = kept craft NotConfigured refl refl
-rate-kept craft (Configured g) = kept craft Rate refl refl
+-- the time step before it
+timed : (holds : Bool) (said : Read) (checks : List Check) → reason-said said ≡ first-failing checks
+    → reason-said (cond holds said (reading.Refused refusals.TimeStep)) ≡ first-failing (check (not holds) (because 2) ∷ checks)
+unfolding first-failing
+timed true said checks others = others
+timed false said checks others = refl
 
-wind-kept : (craft : Craft) (guidance : Guidance) → KeptIfRefused craft (wind-record craft guidance)
-unfolding wind-record
-wind-kept craft Unconfigured = kept craft NotConfigured refl refl
-wind-kept craft (Configured g) = never-refused craft _ (reading-accepted (wind-reading g))
+module _ (body : List ℕ) where
+  prime-said : reason-said (prime-input (state body)) ≡ first-failing (check (too-large (float-at body 56)) (because 3) ∷ [])
+  unfolding prime-input
+  prime-said = rw (← not-large, ← heading-of-state body) (headed (heading-ok (state body .«heading_rad»)) (inputs.Prime (state body)))
 
-of-kind-kept : (kind : ℕ) (craft : Craft) (body : List ℕ) → KeptIfRefused craft (of-kind kind craft body)
-unfolding of-kind
-of-kind-kept kind craft body =
-    let guidance = craft .guidance in
-    either-kept craft (eqb kind 1) (configure-kept craft body)
-    (either-kept craft (eqb kind 2) (prime-kept craft guidance body)
-    (either-kept craft (eqb kind 3) (call-kept craft guidance body true _)
-    (either-kept craft (eqb kind 4) (rate-kept craft guidance)
-    (either-kept craft (eqb kind 5) (call-kept craft guidance body (marks-ok body) _)
-    (either-kept craft (eqb kind 6) (call-kept craft guidance body true _)
-    (either-kept craft (eqb kind 7) (call-kept craft guidance body true _)
-    (either-kept craft (eqb kind 8) (call-kept craft guidance body true _) (wind-kept craft guidance))))))))
+  call-said : (command : Command) → reason-said (call-input (commanded.Command command) (float-at body 0) (state-at body state-start))
+      ≡ first-failing (step-and-heading body)
+  unfolding call-input
+  call-said command =
+      let dt = float-at body 0 in
+      let state = state-at body state-start in
+      rw (← not-in-range, ← not-large, ← heading-of-call body) (timed (time-step-ok dt) _ _ (headed (heading-ok (state .«heading_rad»)) _))
+
+  -- the marks before both
+  marked : (holds : Bool) (command : Command)
+      → reason-said (call-input (cond holds (commanded.Command command) commanded.BadMark) (float-at body 0) (state-at body state-start))
+      ≡ first-failing (check (not holds) (because 8) ∷ step-and-heading body)
+  unfolding call-input first-failing
+  marked true command = call-said command
+  marked false command = refl
+
+  waypoint-said : reason-said (call-input (command calls.Waypoint (drop command-start body)) (float-at body 0) (state-at body state-start))
+      ≡ first-failing (check (not (leb (byte-at body 72) 1 && leb (byte-at body 89) 1)) (because 8) ∷ step-and-heading body)
+  unfolding command
+  waypoint-said = rw (← marks-of-call body) (marked (marks-ok (drop command-start body)) _)
+
+rate-said : some (because 4) ≡ first-failing (check true (because 4) ∷ [])
+unfolding first-failing
+rate-said = refl
+
+nothing-said : none ≡ first-failing []
+unfolding first-failing
+nothing-said = refl
+
+in-flight-refused : (kind : InFlight) (guidance : Guidance) (body : List ℕ)
+    → verdict-reason (told guidance (read kind body)) ≡ first-failing (own-checks (kinds.InFlight kind) guidance body)
+unfolding read command
+in-flight-refused flights.Prime guidance body = told-refused guidance _ _ (prime-said body)
+in-flight-refused (flights.Call calls.Attitude) guidance body = told-refused guidance _ _ (call-said body _)
+in-flight-refused (flights.Call calls.Waypoint) guidance body = told-refused guidance _ _ (waypoint-said body)
+in-flight-refused (flights.Call calls.AbsoluteAttitude) guidance body = told-refused guidance _ _ (call-said body _)
+in-flight-refused (flights.Call calls.Land) guidance body = told-refused guidance _ _ (call-said body _)
+in-flight-refused (flights.Call calls.AbsoluteRate) guidance body = told-refused guidance _ _ (call-said body _)
+in-flight-refused flights.Rate guidance body = told-refused guidance _ _ rate-said
+in-flight-refused flights.Wind guidance body = told-refused guidance _ _ nothing-said
+
+-- a record of a known kind, by its body
+with-body-refused : (kind : Kind) (guidance : Guidance) (bytes : List ℕ) →
+    let needed = body-length kind in
+    let body = take needed (drop 1 bytes) in
+    verdict-reason (serve kind guidance body) ≡ first-failing (own-checks kind guidance body)
+    → verdict-reason (with-body kind guidance (drop 1 bytes) .verdict)
+    ≡ first-failing (check (ltb (length bytes - 1) needed) (because 6) ∷ own-checks kind guidance body)
+with-body-refused kind guidance bytes others =
+    rw (← length-drop 1 bytes) (asked (ltb (length (drop 1 bytes)) (body-length kind)) refusals.Short (served kind guidance (drop 1 bytes)) _ others)
+
+with-kind-refused : (kind : Kind) (guidance : Guidance) (bytes : List ℕ) →
+    let needed = body-length kind in
+    verdict-reason (with-kind kind guidance (drop 1 bytes) .verdict)
+    ≡ first-failing
+    (check (unknown kind) (because 5)
+    ∷ check (ltb (length bytes - 1) needed) (because 6)
+    ∷ own-checks kind guidance (take needed (drop 1 bytes)))
+unfolding answer-of with-kind serve first-failing
+with-kind-refused kinds.Configure guidance bytes = with-body-refused kinds.Configure guidance bytes (configure-refused _)
+with-kind-refused (kinds.InFlight kind) guidance bytes = with-body-refused (kinds.InFlight kind) guidance bytes (in-flight-refused kind guidance _)
+with-kind-refused kinds.Unknown guidance bytes = refl
+
+refused-by : (craft : Craft) (bytes buffer : List ℕ) → reason-of (step craft bytes buffer .answer) ≡ why craft bytes buffer
+unfolding step judged answered checks
+refused-by craft bytes buffer =
+    rw (← unknown-byte (byte-at bytes 0))
+    (asked (ltb (length buffer) answer-room) refusals.NoRoom _ _
+    (asked (eqb (length bytes) 0) refusals.Short _ _ (with-kind-refused (kind-of (byte-at bytes 0)) (craft .guidance) bytes)))
+
+none-given : (o : Option Refusal) → is-none o ≡ no-reason (reason-in o)
+none-given none = refl
+none-given (some refusal) = refl
+
+accepted-exactly : (craft : Craft) (bytes buffer : List ℕ) → accepted (step craft bytes buffer .answer) ≡ no-reason (why craft bytes buffer)
+accepted-exactly craft bytes buffer = none-given (refusal-of (step craft bytes buffer .answer)) ∙ ap no-reason (refused-by craft bytes buffer)
+
+accepted-takes : (craft : Craft) (bytes buffer : List ℕ) → accepted (step craft bytes buffer .answer) ≡ true
+    → Accepting bytes buffer (step craft bytes buffer)
+unfolding answered
+accepted-takes craft bytes buffer accepts =
+    rw (complete-served craft bytes buffer (accepted-complete craft bytes buffer (rw accepts tt)))
+    (record { taken = refl; written = refl; few = answer-short _; buffer-left = refl })
+
+numbered : Numbered
+unfolding body-length kind-of
+numbered =
+    record {
+      configure = record { says = refl; follow = refl };
+      prime = record { says = refl; follow = refl };
+      attitude = record { says = refl; follow = refl };
+      rate = record { says = refl; follow = refl };
+      waypoint = record { says = refl; follow = refl };
+      absolute-attitude = record { says = refl; follow = refl };
+      land = record { says = refl; follow = refl };
+      absolute-rate = record { says = refl; follow = refl };
+      wind = record { says = refl; follow = refl };
+    }
+
+-- ---- whole configurations
+
+module _ (craft : Craft) (bytes buffer : List ℕ) (configures : Configures bytes buffer) where
+  configure-why : why craft bytes buffer ≡ first-failing (fields-kept (fields-in bytes) 1 field-count)
+  unfolding checks first-failing kind-of body-length
+  configure-why =
+      rw (
+        configures .kind-one,
+        le-ltb (length buffer) 25 (configures .room),
+        ne-eqb (length bytes) 0 (λ none. omega arith),
+        le-ltb (length bytes - 1) 200 (omega arith),
+      )
+
+  configure-accepted : accepted (step craft bytes buffer .answer) ≡ no-reason (first-failing (fields-kept (fields-in bytes) 1 field-count))
+  configure-accepted = accepted-exactly craft bytes buffer ∙ ap no-reason configure-why
+
+  kept→accepted : ((n : ℕ) → 1 ≤ n → n ≤ field-count → Keeps (fields-in bytes) n) → accepted (step craft bytes buffer .answer) ≡ true
+  kept→accepted keep = configure-accepted ∙ ap no-reason (kept-none-fails (fields-in bytes) keep)
+
+  accepted→kept : accepted (step craft bytes buffer .answer) ≡ true → (n : ℕ) → 1 ≤ n → n ≤ field-count → Keeps (fields-in bytes) n
+  accepted→kept accepts =
+      none-fails-kept (fields-in bytes) (none-of (first-failing (fields-kept (fields-in bytes) 1 field-count)) (sym configure-accepted ∙ accepts))
+    where
+      none-of : (o : Option Reason) → no-reason o ≡ true → o ≡ none
+      none-of none given = refl
+      none-of (some reason) given = absurd (true≢false (sym given))
+
+  accepted-valid : (accepted (step craft bytes buffer .answer) ≡ true) ↔ Valid (config-in bytes)
+  accepted-valid =
+      let values = floats-from 0 field-count (fields-in bytes) in
+      let valid = kept-is-valid values in
+      (λ accepts. valid .0 (each-keeps (fields-in bytes) (accepted→kept accepts)), λ v. kept→accepted (keeps-each (fields-in bytes) (valid .1 v)))
+
+  else-lowest : accepted (step craft bytes buffer .answer) ≡ false
+      → (n : ℕ) × (reason-of (step craft bytes buffer .answer) ≡ some (broken n)) × Lowest (fields-in bytes) n
+  else-lowest refuses =
+      let (n, first, is-lowest) = fails-lowest (fields-in bytes) (sym configure-accepted ∙ refuses) in
+      (n, refused-by craft bytes buffer ∙ configure-why ∙ first, is-lowest)
 
 -- ---- what a refused record leaves
 
+-- an accepted answer; or a refusal, 9 exactly where there is no room, that takes no byte or the record
+abbrev Settles : Bool → ℕ → ℕ → Verdict → Type 0
+Settles no-room needed taken (Accepted g answer) = refusal-of answer ≡ none
+Settles no-room needed taken (Refused refusal) = (eqb (number refusal) 9 ≡ no-room) × (taken ≡ cond (takes-none (number refusal)) 0 (suc needed))
+
+whole-settles : (needed : ℕ) (verdict : Verdict) → TakesRecord verdict → Settles false needed (suc needed) verdict
+whole-settles needed (Accepted g answer) takes = takes
+whole-settles needed (Refused refusal) takes =
+    (neither (eqb (number refusal) 5 || eqb (number refusal) 6) (eqb (number refusal) 9) takes .1, rw takes)
+
+-- the three bytes of a refusal over a buffer, none of them for 9
+refusal-put : (no-room : Bool) (a b c : ℕ) (buffer : List ℕ) →
+    let bytes = cond no-room [] (a ∷ b ∷ c ∷ []) in
+    (bytes ++ drop (length bytes) buffer ≡ cond no-room buffer (a ∷ b ∷ c ∷ drop 3 buffer)) × (length bytes ≡ cond no-room 0 3)
+refusal-put true a b c buffer = (refl, refl)
+refusal-put false a b c buffer = (refl, refl)
+
 module _ (craft : Craft) (bytes buffer : List ℕ) where
-  abbrev RefusingIfRefused : Outcome → Type 0
-  RefusingIfRefused outcome = accepted (outcome .answer) ≡ false → Refusing craft bytes buffer outcome
+  abbrev SettlesHere : Judged → Type 0
+  SettlesHere j = Settles (ltb (length buffer) answer-room) (body-length (kind-of (byte-at bytes 0))) (j .taken) (j .verdict)
 
-  -- a refusal that is written
-  refusal-written : (refusal : Refusal) (taken : ℕ) → eqb (number refusal) 9 ≡ false → ltb (length buffer) 25 ≡ false
-      → taken ≡ cond (takes-none refusal) 0 (suc (body-length (byte-at bytes 0)))
-      → Refusing craft bytes buffer (answered (refuse craft refusal) taken buffer)
-  unfolding answered answer-bytes refusal-bytes
-  refusal-written refusal taken numbered room takes =
+  -- Every record does, with room and without.
+  all-settle : SettlesHere (cond (ltb (length buffer) answer-room) (untaken refusals.NoRoom) (judged (craft .guidance) bytes))
+  all-settle =
+      let guidance = craft .guidance in
+      let kind = kind-of (byte-at bytes 0) in
+      let body = take (body-length kind) (drop 1 bytes) in
+      by-test SettlesHere (ltb (length buffer) answer-room) (λ small. (sym small, refl))
+      (λ room. judged-cases SettlesHere guidance bytes (sym room, refl) (sym room, refl)
+      (λ is-known whole. rw room (whole-settles (body-length kind) (serve kind guidance body) (serve-takes kind guidance body is-known))))
+
+  refusal-left : (refusal : Refusal) (taken : ℕ) → SettlesHere (record { verdict = Refused refusal; taken = taken })
+      → Refusing craft bytes buffer (reason refusal) (answered craft (record { verdict = Refused refusal; taken = taken }) buffer)
+  unfolding answered answer-of craft-after answer-bytes refusal-bytes
+  refusal-left refusal taken (nine, takes) =
+      let put = refusal-put (ltb (length buffer) answer-room) 3 (number refusal) (field-of refusal) buffer in
       record {
-        refusal = refusal;
         refused = refl;
         craft-stays = refl;
-        buffer-left = rw (numbered, room);
-        written = rw (numbered, room);
+        buffer-left = rw nine (put .0);
+        written = rw nine (put .1);
         taken = takes;
-        nine-without-room = numbered ∙ sym room;
+        nine-without-room = nine;
       }
 
-  no-room : ltb (length buffer) 25 ≡ true → Refusing craft bytes buffer (answered (refuse craft NoRoom) 0 buffer)
-  unfolding answered answer-bytes refusal-bytes
-  no-room short =
-      record {
-        refusal = NoRoom;
-        refused = refl;
-        craft-stays = refl;
-        buffer-left = rw short;
-        written = rw short;
-        taken = refl;
-        nine-without-room = sym short;
-      }
+  verdict-left : (why : Reason) (taken : ℕ) (verdict : Verdict) → SettlesHere (record { verdict = verdict; taken = taken })
+      → verdict-reason verdict ≡ some why → Refusing craft bytes buffer why (answered craft (record { verdict = verdict; taken = taken }) buffer)
+  unfolding answer-of
+  verdict-left why taken (Accepted g answer) settles refuses = absurd (true≢false (ap no-reason (sym (ap reason-in settles) ∙ refuses)))
+  verdict-left why taken (Refused refusal) settles refuses =
+      let same : reason refusal ≡ why = cc in rw (← same) (refusal-left refusal taken settles)
 
-  verdict-refusing : (verdict : Verdict) → ltb (length buffer) 25 ≡ false → Kept craft verdict
-      → Refusing craft bytes buffer (answered verdict (suc (body-length (byte-at bytes 0))) buffer)
-  verdict-refusing verdict room k =
-      rw (k .is-refusal) (refusal-written (k .refusal) _ (k .with-room) room (rw (k .takes-record)))
-
-  with-kind-refusing : ltb (length buffer) 25 ≡ false → RefusingIfRefused (with-kind (byte-at bytes 0) craft (drop 1 bytes) buffer)
-  unfolding with-kind answered
-  with-kind-refusing room =
-      let kind = byte-at bytes 0 in
-      let rest = drop 1 bytes in
-      let needed = body-length kind in
-      by-test RefusingIfRefused (ltb kind 1) (λ below refusing. refusal-written Kind 0 refl room refl)
-      (λ from-one. by-test RefusingIfRefused (ltb 9 kind) (λ above refusing. refusal-written Kind 0 refl room refl)
-      (λ to-nine. by-test RefusingIfRefused (ltb (length rest) needed) (λ short refusing. refusal-written Short 0 refl room refl)
-      (λ whole refusing. verdict-refusing (of-kind kind craft (take needed rest)) room (of-kind-kept kind craft (take needed rest) refusing))))
-
-  refused-stays : record-ok craft bytes buffer ≡ false → Refusing craft bytes buffer (step craft bytes buffer)
-  unfolding step
-  refused-stays not-ok =
-      by-test RefusingIfRefused (ltb (length buffer) 25) (λ short refusing. no-room short)
-      (λ room. by-test RefusingIfRefused (eqb (length bytes) 0) (λ empty refusing. refusal-written Short 0 refl room refl)
-      (λ some. with-kind-refusing room))
-      (accepted-exactly craft bytes buffer ∙ not-ok)
+  refused-stays : (reason : Reason) → why craft bytes buffer ≡ some reason → Refusing craft bytes buffer reason (step craft bytes buffer)
+  unfolding step answered
+  refused-stays reason fails =
+      let j = cond (ltb (length buffer) answer-room) (untaken refusals.NoRoom) (judged (craft .guidance) bytes) in
+      verdict-left reason (j .taken) (j .verdict) all-settle (refused-by craft bytes buffer ∙ fails)
 
 -- ---- the claim
 
 pub total : Total
 total =
     record {
+      refused-by = refused-by;
       accepted-exactly = accepted-exactly;
+      accepted-takes = accepted-takes;
+      numbered = numbered;
       kept→accepted = kept→accepted;
       accepted→kept = accepted→kept;
-      lowest-breaks = lowest-breaks;
-      lower-keep = λ (body : List ℕ) (n : ℕ) (low : 1 ≤ n) (below : n < lowest body 1 50). search-keep body 1 50 n low below;
+      accepted-valid = accepted-valid;
+      else-lowest = else-lowest;
       refused-stays = refused-stays;
     }

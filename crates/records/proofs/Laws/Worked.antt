@@ -1,12 +1,11 @@
 -- Document 01's worked flights hold of the definitions: `worked-flights`, one theorem for the one table of specs/Worked.antt. W1 to W8 and W10 are laws of the
 -- crates below. Assumes nothing.
-use Prim.Native.Nat.{ℕ, _≤_}
+use Prim.Native.Nat.{ℕ, suc, _≤_}
 use mathlib.Core.Path.{_≡_, refl, ap, _∙_}
 use mathlib.Core.Bool.{true, false}
-use mathlib.Core.List.{List}
+use mathlib.Core.List.{List, [], map}
 use native.Mathlib.Omega.{arith}
-use borrow.Author.Tests.{le-ltb, ne-eqb}
-use lib.ListN.{length, drop, length-drop}
+use lib.Dec.{lit≤}
 use lib.Ieee.{Float, le, ofBits}
 use Rattle.floats.specs.Ops.{f32}
 use Rattle.floats.proofs.Laws.Sqrt.{sqrt-two-bits}
@@ -15,52 +14,53 @@ use Rattle.math.proofs.Laws.Worked as math
 use Rattle.controllers.proofs.Laws.Worked as controllers
 use Rattle.altitude.proofs.Laws.Worked as altitude
 use Rattle.copter.proofs.Laws.Worked as copter
+use Rattle.copter.specs.Config.{defaults}
 use Rattle.copter.specs.Guide.{absolute-attitude-call, guide-call}
 use Rattle.copter.specs.declared.memory.CopterGuidance.{CopterGuidance}
-use Rattle.records.specs.declared.craft.Craft.{Craft}
-use Rattle.records.specs.declared.answer.Refusal.the-variants.{TimeStep}
-use Rattle.records.specs.Read.{float-at, state-at, absolute-attitude-command}
-use Rattle.records.specs.Step.{Verdict, configured, time-step-ok, heading-ok, refuse, setpoint-answer, guided, checked, called, of-kind, body-length, answered, with-kind, step}
-use Rattle.records.specs.Feed.{Entry, outcome, body-of}
-use Rattle.records.specs.Worked.{CallWith, CallAccepted, CallRefused, WorkedFlights}
+use Rattle.records.specs.declared.craft.Guidance.the-variants.{Configured}
+use Rattle.records.specs.declared.read.Read.{Read}
+use Rattle.records.specs.declared.kinds.Call.the-variants as calls
+use Rattle.records.specs.declared.kinds.InFlight.the-variants as flights
+use Rattle.records.specs.Craft.{unconfigured}
+use Rattle.records.specs.Layout.{size, Value, number, parts-of}
+use Rattle.records.specs.Kinds.{kind-of, layout, body-length}
+use Rattle.records.specs.Read.{command, time-step-ok, read}
+use Rattle.records.specs.Step.{configured, setpoint-answer, guided, perform, told, answer-of, answered}
+use Rattle.records.specs.Feed.{Entry, outcome, kind-byte, body-of}
+use Rattle.records.specs.Total.{last-kind}
+use Rattle.records.specs.Worked.{CallWith, CallAccepted, CallRefused, sent, worked-fields, configuring, priming, flying, flight, WorkedFlights}
+use Rattle.records.proofs.Laws.Layout.{laid-size}
+use Rattle.records.proofs.Laws.Counts.{unknown, Complete, complete-told}
+use Rattle.records.proofs.Laws.Total.{total}
+use Rattle.records.proofs.Laws.Flight.{Whole, AllWhole, file-as-feed}
 use Rattle.records.proofs.Laws.Examples.{examples}
 
 -- ---- W9
 
-module _ (t : Float) (entry : Entry) (call : CallWith t entry) where
-  -- A whole record of kind 6 is answered by its kind.
-  answered-as-call : (craft : Craft) → outcome craft entry ≡ answered (of-kind 6 craft (body-of entry)) 81 (entry .buffer)
-  unfolding step with-kind body-length
-  answered-as-call craft =
-      let not-empty : length (entry .bytes) ≡ 0 → ⊥ = λ none. omega arith in
-      let enough : 80 ≤ length (drop 1 (entry .bytes)) = simp length-drop (omega arith) in
-      rw (
-        le-ltb (length (entry .buffer)) 25 (call .room),
-        ne-eqb (length (entry .bytes)) 0 not-empty,
-        call .kind-six,
-        le-ltb (length (drop 1 (entry .bytes))) 80 enough,
-      )
+module _ (t : Float) (g : CopterGuidance) (entry : Entry) (with-t : CallWith t entry) where
+  abbrev said : Read
+  said = read (flights.Call calls.AbsoluteAttitude) (body-of entry)
 
--- with a time step and a heading that pass
-call-flies : (g : CopterGuidance) (body : List ℕ) → time-step-ok (float-at body 0) ≡ true → heading-ok (state-at body 4 .«heading_rad») ≡ true
-    → of-kind 6 (configured g) body ≡ guided (absolute-attitude-call g (float-at body 0) (state-at body 4) (absolute-attitude-command body))
-unfolding of-kind checked called guide-call
-call-flies g body in-time headed = rw (in-time, headed)
-
--- with a time step that does not
-call-late : (g : CopterGuidance) (body : List ℕ) → time-step-ok (float-at body 0) ≡ false → of-kind 6 (configured g) body ≡ refuse (configured g) TimeStep
-unfolding of-kind checked called
-call-late g body late = rw late
+  -- A whole record of kind 6 is told to the craft.
+  told-as-call : outcome (configured g) entry ≡ answered (configured g) (record { verdict = told (Configured g) said; taken = 81 }) (entry .buffer)
+  unfolding kind-of
+  told-as-call =
+      let six = total .numbered .absolute-attitude in
+      let kind = ap kind-of (with-t .kind-six) in
+      let eighty : body-length (kind-of (kind-byte entry)) ≡ 80 =
+      ap (λ (byte : ℕ). body-length (kind-of byte)) (with-t .kind-six) ∙ ap body-length (six .says) ∙ six .follow in
+      let complete : Complete (entry .bytes) (entry .buffer) =
+      record { is-known = ap unknown kind; whole = omega (arith, with-t .whole); room = with-t .room } in
+      complete-told (configured g) (entry .bytes) (entry .buffer) complete (flights.Call calls.AbsoluteAttitude) kind
+      ∙ ap (λ (n : ℕ). answered (configured g) (record { verdict = told (Configured g) said; taken = suc n }) (entry .buffer)) eighty
 
 call-accepted : (t : Float) → time-step-ok t ≡ true → CallAccepted t
-unfolding answered guided absolute-attitude-call setpoint-answer
-call-accepted t ok g entry call headed =
-    rw (answered-as-call t entry call (configured g), call-flies g (body-of entry) (ap time-step-ok (call .time-step) ∙ ok) headed) tt
+unfolding answered answer-of told read command perform guided guide-call absolute-attitude-call setpoint-answer
+call-accepted t in-time g entry with-t headed = rw (told-as-call t g entry with-t, with-t .time-step, in-time, headed) tt
 
 call-refused : (t : Float) → time-step-ok t ≡ false → CallRefused t
-call-refused t late g entry call =
-    answered-as-call t entry call (configured g)
-    ∙ ap (λ (v : Verdict). answered v 81 (entry .buffer)) (call-late g (body-of entry) (ap time-step-ok (call .time-step) ∙ late))
+unfolding told read command
+call-refused t late g entry with-t = told-as-call t g entry with-t ∙ rw (with-t .time-step, late)
 
 least-ok : time-step-ok (f32 0x3980_0000) ≡ true
 unfolding time-step-ok le ofBits
@@ -77,6 +77,21 @@ below-least-late = refl
 above-most-late : time-step-ok (f32 0x3F80_0001) ≡ false
 unfolding time-step-ok le ofBits
 above-most-late = refl
+
+-- ---- the flight as a file
+
+-- The values of a kind's layout, sent, are a whole record.
+sent-whole : (kind : ℕ) (values : List Value) → 1 ≤ kind → kind ≤ last-kind → parts-of values ≡ layout (kind-of kind) → Whole (sent kind values)
+unfolding body-length
+sent-whole kind values low high laid-out =
+    record { from-one = low; to-last = high; exact = ap suc (laid-size values ∙ ap size laid-out); blank = refl }
+
+flight-whole : AllWhole flight
+unfolding flight configuring priming flying worked-fields defaults kind-of
+flight-whole = (
+  sent-whole 1 (map number worked-fields) (lit≤ tt) (lit≤ tt) refl,
+  (sent-whole 2 _ (lit≤ tt) (lit≤ tt) refl, (sent-whole 6 _ (lit≤ tt) (lit≤ tt) refl, (sent-whole 4 [] (lit≤ tt) (lit≤ tt) refl, tt))),
+)
 
 -- ---- the table
 
@@ -106,4 +121,5 @@ worked-flights =
           };
       w10 = sqrt-two-bits;
       run = examples .flight-answered;
+      run-file = file-as-feed unconfigured flight flight-whole ∙ examples .flight-answered;
     }

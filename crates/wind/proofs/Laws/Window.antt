@@ -1,21 +1,21 @@
--- The window with accepted time steps: it closes after at most 820 samples, so its count neither overflows nor loses a digit as a float, and the
--- time elapsed is finite. At the least step it closes at the 820th sample. Assumes nothing.
+-- The window with accepted time steps: specs/Window.antt's `WindowCloses`, that it closes after at most 820 samples and at the least step at the
+-- 820th. So its count neither overflows nor loses a digit as a float, and the time elapsed is finite. Assumes nothing.
 use mathlib.Core.Path.{_≡_, refl, _∙_}
 use mathlib.Core.Logic.{_⊎_, inl, inr, ⊎-elim}
-use Prim.Native.Nat.{ℕ, zero, suc, _+_, _%_, _^_, _≤_, _<_}
-use native.Mathlib.Nat.{le-refl, le-of-suc-le-suc, eq-or-lt-of-le, lt-of-not-le, mul-le-mul-right, mod-eq-of-lt}
-use native.Mathlib.Numerals.{add-one}
+use Prim.Native.Nat.{ℕ, zero, suc, _+_, _%_, _^_, _≤_}
+use native.Mathlib.Nat.{zero-add, add-zero, le-of-suc-le-suc, lt-of-not-le, mul-le-mul-right, mod-eq-of-lt}
 use native.Mathlib.Omega.{arith}
+use mathlib.Core.List.{List, [], _∷_}
 use mathlib.Core.Bool.{Bool, true, false, cond}
-use lib.IntN.{pos}
 use lib.Dec.{T, lit≤, lit<}
+use lib.ListN.{length, take}
 use lib.Ieee.{Float, binary32, isNan, ofBits, ofInt, round, lt, le, add}
 use lib.Ieee.Back.{round-whole}
 use lib.Ieee.Exact.{HasValue}
 use lib.Ieee.Order.{round-mono}
 use lib.Ieee.Scale.{finite}
-use Rattle.floats.specs.Ops.{f32, _⊕_}
-use Rattle.floats.proofs.Laws.Order.{+0, le-trans, le-lt-trans, lt→le, lt-excludes, le-or-lt, le-not-lt, number, finite-between, finite→number}
+use Rattle.floats.specs.Ops.{_⊕_}
+use Rattle.floats.proofs.Laws.Order.{+0, le-trans, le-lt-trans, lt→le, lt-excludes, le-not-lt, number, finite-between, finite→number}
 use Rattle.floats.proofs.Laws.Round.{round-number, round-nonneg}
 use Rattle.floats.proofs.Laws.Fractions.{add-alike}
 use Rattle.floats.proofs.Laws.Grid.{round-count}
@@ -25,27 +25,18 @@ use Rattle.wind.specs.declared.state.VehicleState.{VehicleState}
 use Rattle.wind.specs.declared.drag.WindConfig.{WindConfig}
 use Rattle.wind.specs.declared.sample.Sample.{Sample}
 use Rattle.wind.specs.declared.sample.Sampled.{Sampled}
-use Rattle.wind.specs.declared.sample.Sampled.the-variants as samples
+use Rattle.wind.specs.declared.sample.Sampled.the-variants.{Nothing, Taken}
 use Rattle.wind.specs.declared.window.Window.{Window}
-use Rattle.wind.specs.declared.window.Filter.the-variants as filters
+use Rattle.wind.specs.declared.window.Filter.the-variants.{Estimate}
 use Rattle.wind.specs.declared.window.WindEstimator.{WindEstimator}
 use Rattle.wind.specs.Drag.{is-on}
 use Rattle.wind.specs.Sample.{from-state}
 use Rattle.wind.specs.Wind.{update-period, empty, grown, closed, fresh, gathered, taken, update}
+use Rattle.wind.specs.Window.{least-step, Accepted, steps, OpenWindow, OneMore, Updated, unchanged, open-still, finished}
+use Rattle.wind.specs.Window.{AcceptedSample, updates, sums, LeastSteps, ClosesAt, WindowCloses}
+use Rattle.wind.proofs.Laws.Sample.{either-way}
 
 -- ---- time steps
-
--- 1/4,096 s, the least step that document 01 accepts
-abbrev pub least-step : Float
-least-step = f32 0x3980_0000
-
-pub record Accepted (dt : Float) : Type 0 where
-  pub at-least : T (le least-step dt)
-  pub at-most : T (le dt one)
-
--- n of the least steps
-abbrev pub steps : ℕ → Float
-steps n = round binary32 false n 4096
 
 least-step-value : HasValue least-step false 1 4096
 unfolding ofBits
@@ -64,19 +55,12 @@ pub step-finite : (dt : Float) → Accepted dt → T (finite dt)
 unfolding ofBits
 step-finite dt a = finite-between least-step dt one tt tt (a .at-least) (a .at-most)
 
--- ---- a window that is open: fewer than 820 samples, at least 1/4,096 s each, and less than 0.2 s in all
+-- ---- a window that is open
 
 -- 820 steps are past 0.2 s
 period-passed : T (le update-period (steps 820))
 unfolding ofBits round le
 period-passed = tt
-
-pub record OpenWindow (w : Window) : Type 0 where
-  pub few : w .ticks < 820
-  pub long : T (le (steps (w .ticks)) (w .«elapsed_s»))
-  pub short : T (lt (w .«elapsed_s») update-period)
-  pub non-negative : T (le +0 (w .«elapsed_s»))
-  pub is-finite : T (finite (w .«elapsed_s»))
 
 -- that it is long and short enough tells the rest
 pub open-window : (w : Window) → T (le (steps (w .ticks)) (w .«elapsed_s»)) → T (lt (w .«elapsed_s») update-period) → OpenWindow w
@@ -98,14 +82,7 @@ pub empty-open : OpenWindow empty
 unfolding empty ofBits round le lt
 empty-open = open-window empty tt tt
 
--- ---- one sample more: counted without overflow, and the count is a whole f32
-
-pub record OneMore (before after : Window) : Type 0 where
-  pub counted : after .ticks ≡ before .ticks + 1
-  pub few : after .ticks ≤ 820
-  pub count-exact : HasValue (ofInt binary32 (pos (after .ticks))) false (after .ticks) 1
-  pub long : T (le (steps (after .ticks)) (after .«elapsed_s»))
-  pub is-finite : T (finite (after .«elapsed_s»))
+-- ---- one sample more
 
 -- 1 s more than 0.2 s is finite
 period-and-step-finite : T (finite (update-period ⊕ one))
@@ -146,28 +123,32 @@ grown-counts w dt sample o a =
 
 -- ---- an update
 
--- Nothing changes, or the window has one sample more and stays open, or one of at most 820 samples closes.
-pub data Updated (self : WindEstimator) (config : WindConfig) : WindEstimator → Type 0 where
-  unchanged : Updated self config self
-  open-still : (w : Window) → OneMore (self .window) w → OpenWindow w → Updated self config (record { filter = self .filter; window = w })
-  finished : (w : Window) → OneMore (self .window) w → T (le update-period (w .«elapsed_s»))
-      → Updated self config (record { filter = filters.Estimate (closed (self .filter) config w); window = empty })
-
--- by whether the window with one sample more is still short
-window-cases : (self : WindEstimator) (config : WindConfig) (w : Window) → OneMore (self .window) w → (b : Bool) → lt (w .«elapsed_s») update-period ≡ b
-    → Updated self config
-    (cond b (record { filter = self .filter; window = w }) (record { filter = filters.Estimate (closed (self .filter) config w); window = empty }))
+-- still short, or long enough to close
+short-or-long : (w : Window) (x y : WindEstimator) (b : Bool) → lt (w .«elapsed_s») update-period ≡ b → T (le (steps (w .ticks)) (w .«elapsed_s»))
+    → T (finite (w .«elapsed_s»)) → ((cond b x y ≡ x) × OpenWindow w) ⊎ ((cond b x y ≡ y) × T (le update-period (w .«elapsed_s»)))
 unfolding ofBits isNan
-window-cases self config w m true e = open-still w m (open-window w (m .long) (rw e tt))
-window-cases self config w m false e = finished w m (rw (le-not-lt update-period (w .«elapsed_s») tt (finite→number (w .«elapsed_s») (m .is-finite)), e) tt)
+short-or-long w x y true e l f = inl (refl, open-window w l (rw e tt))
+short-or-long w x y false e l f = inr (refl, rw (le-not-lt update-period (w .«elapsed_s») tt (finite→number (w .«elapsed_s») f), e) tt)
+
+-- the window stays open, or it closes
+gathered-cases : (self : WindEstimator) (dt : Float) (config : WindConfig) (sample : Sample) → OneMore (self .window) (grown (self .window) dt sample) →
+    let w = grown (self .window) dt sample in
+    ((gathered self dt config sample ≡ record { filter = self .filter; window = w }) × OpenWindow w)
+    ⊎ ((gathered self dt config sample ≡ record { filter = Estimate (closed (self .filter) config w); window = empty })
+    × T (le update-period (w .«elapsed_s»)))
+unfolding gathered
+gathered-cases self dt config sample m =
+    let w = grown (self .window) dt sample in
+    short-or-long w _ _ (lt (w .«elapsed_s») update-period) refl (m .long) (m .is-finite)
 
 sample-cases : (sampled : Sampled) (self : WindEstimator) (dt : Float) (config : WindConfig) → OpenWindow (self .window) → Accepted dt
     → Updated self config (taken sampled self dt config)
-unfolding taken gathered
-sample-cases samples.Nothing self dt config o a = unchanged
-sample-cases (samples.Taken sample) self dt config o a =
+unfolding taken
+sample-cases Nothing self dt config o a = unchanged
+sample-cases (Taken sample) self dt config o a =
     let w = grown (self .window) dt sample in
-    window-cases self config w (grown-counts (self .window) dt sample o a) (lt (w .«elapsed_s») update-period) refl
+    let m = grown-counts (self .window) dt sample o a in
+    ⊎-elim (λ p. rw (p .0) (open-still w m (p .1))) (λ p. rw (p .0) (finished w m (p .1))) (gathered-cases self dt config sample m)
 
 pub update-cases : (self : WindEstimator) (dt : Float) (config : WindConfig) (state : VehicleState) → OpenWindow (self .window) → Accepted dt
     → Updated self config (update self dt config state)
@@ -193,91 +174,106 @@ fresh-open = empty-open
 
 -- ---- a whole window
 
--- the sums after n samples
-unfoldable pub fed : (ℕ → Float) → (ℕ → Sample) → ℕ → Window
-fed dt sample zero = empty
-fed dt sample (suc n) = grown (fed dt sample n) (dt n) (sample n)
+-- with an accepted sample more
+abbrev wider : {config : WindConfig} → Window → AcceptedSample config → Window
+wider window next = grown window (next .dt) (next .sample)
 
--- up to the nth sample the window is open
-abbrev OpenTo : (ℕ → Float) → (ℕ → Sample) → ℕ → Type 0
-OpenTo dt sample n = (k : ℕ) → k ≤ n → T (lt (fed dt sample k .«elapsed_s») update-period)
+update-gathers : (self : WindEstimator) (config : WindConfig) (next : AcceptedSample config) → is-on config ≡ true
+    → update self (next .dt) config (next .state) ≡ gathered self (next .dt) config (next .sample)
+unfolding update taken
+update-gathers self config next on = rw (on, next .is-taken)
 
--- the window closes at its nth sample
-pub record ClosesAt (dt : ℕ → Float) (sample : ℕ → Sample) (n : ℕ) : Type 0 where
-  pub counted : fed dt sample n .ticks ≡ n
-  pub open-before : (k : ℕ) → k < n → T (lt (fed dt sample k .«elapsed_s») update-period)
-  pub closed-then : T (le update-period (fed dt sample n .«elapsed_s»))
+updates-same : (config : WindConfig) (samples : List (AcceptedSample config)) {a b : WindEstimator} → a ≡ b
+    → updates a config samples ≡ updates b config samples
+updates-same config samples e = rw e
 
-open-before : (dt : ℕ → Float) (sample : ℕ → Sample) (n : ℕ) → OpenTo dt sample n → (k : ℕ) → k < suc n → T (lt (fed dt sample k .«elapsed_s») update-period)
-open-before dt sample n h k l = h k (le-of-suc-le-suc l)
+module _ (self : WindEstimator) (config : WindConfig) (next : AcceptedSample config) (samples : List (AcceptedSample config))
+    (m : OneMore (self .window) (wider (self .window) next)) where
+  closes-now : update self (next .dt) config (next .state)
+      ≡ record { filter = Estimate (closed (self .filter) config (wider (self .window) next)); window = empty }
+      → T (le update-period (wider (self .window) next .«elapsed_s»)) → ClosesAt self config (next ∷ samples) 1
+  unfolding updates sums
+  closes-now e l =
+      record {
+        gathers = elim [ zero ↦ λ h. refl | suc k ↦ λ h. absurd (omega arith) ];
+        counts = elim [ zero ↦ λ h. omega arith | suc zero ↦ λ h. m .counted | suc (suc k) ↦ λ h. absurd (omega arith) ];
+        long = l;
+        closes = e;
+      }
 
-open-to-next : (dt : ℕ → Float) (sample : ℕ → Sample) (n : ℕ) → OpenTo dt sample n → T (lt (fed dt sample (suc n) .«elapsed_s») update-period)
-    → OpenTo dt sample (suc n)
-open-to-next dt sample n h last k l = ⊎-elim (λ (e : k ≡ suc n). rw e last) (λ p. h k (le-of-suc-le-suc p)) (eq-or-lt-of-le l)
+  closes-later : (n : ℕ) → update self (next .dt) config (next .state) ≡ record { filter = self .filter; window = wider (self .window) next }
+      → ClosesAt (record { filter = self .filter; window = wider (self .window) next }) config samples n → ClosesAt self config (next ∷ samples) (suc n)
+  unfolding updates sums
+  closes-later n e c =
+      record {
+        gathers = elim [ zero ↦ λ h. refl | suc k ↦ λ h. updates-same config (take k samples) e ∙ c .gathers k (le-of-suc-le-suc h) ];
+        counts = elim [ zero ↦ λ h. omega arith | suc k ↦ λ h. omega (arith, c .counts k (le-of-suc-le-suc h)) ];
+        long = c .long;
+        closes = updates-same config (take n samples) e ∙ c .closes;
+      }
 
-module _ (dt : ℕ → Float) (sample : ℕ → Sample) (accepted : (n : ℕ) → Accepted (dt n)) where
-  next : (n : ℕ) → OpenWindow (fed dt sample n) → fed dt sample n .ticks ≡ n
-      → OneMore (fed dt sample n) (fed dt sample (suc n)) × (fed dt sample (suc n) .ticks ≡ suc n)
-  unfolding fed
-  next n o e =
-      let m = grown-counts (fed dt sample n) (dt n) (sample n) o (accepted n) in
-      (m, m .counted ∙ rw e (add-one n))
-
-  so-far : (n : ℕ) → OpenTo dt sample n → OpenWindow (fed dt sample n) × (fed dt sample n .ticks ≡ n)
-  unfolding fed empty
-  so-far zero h = (empty-open, refl)
-  so-far (suc n) h =
-      let p = so-far n (λ k l. h k (omega arith)) in
-      let q = next n (p .0) (p .1) in
-      (open-window (fed dt sample (suc n)) (q .0 .long) (h (suc n) (le-refl (suc n))), q .1)
-
-  -- closed by the next sample, or open still
-  closes-next : (n : ℕ) → OpenTo dt sample n → ClosesAt dt sample (suc n) ⊎ OpenTo dt sample (suc n)
-  unfolding ofBits isNan
-  closes-next n h =
-      let p = so-far n h in
-      let q = next n (p .0) (p .1) in
-      let t = fed dt sample (suc n) .«elapsed_s» in
-      ⊎-elim (λ l. inl (record { counted = q .1; open-before = open-before dt sample n h; closed-then = l })) (λ l. inr (open-to-next dt sample n h l))
-      (le-or-lt update-period t tt (finite→number t (q .0 .is-finite)))
-
-  closes-within : (d n : ℕ) → n + d ≡ 819 → OpenTo dt sample n → (m : ℕ) × (m ≤ 820) × ClosesAt dt sample m
-  closes-within zero n e h =
-      ⊎-elim (λ c. (suc n, omega arith, c)) (λ g. absurd (omega (arith, so-far (suc n) g .0 .few, so-far (suc n) g .1))) (closes-next n h)
-  closes-within (suc d) n e h = ⊎-elim (λ c. (suc n, omega arith, c)) (λ g. closes-within d (suc n) (omega arith) g) (closes-next n h)
-
-  -- whatever the samples and the accepted time steps
-  pub closes-by-820 : (n : ℕ) × (n ≤ 820) × ClosesAt dt sample n
-  unfolding fed empty ofBits lt
-  closes-by-820 = closes-within 819 0 refl (λ k l. let e : k ≡ 0 = omega arith in rw e tt)
+closes-within : (config : WindConfig) → is-on config ≡ true → (samples : List (AcceptedSample config)) (self : WindEstimator)
+    → OpenWindow (self .window) → 820 ≤ self .window .ticks + length samples
+    → (n : ℕ) × (1 ≤ n) × (self .window .ticks + n ≤ 820) × ClosesAt self config samples n
+closes-within config on [] self o h = absurd (omega (arith, o .few))
+closes-within config on (next ∷ samples) self o h =
+    let m = grown-counts (self .window) (next .dt) (next .sample) o (next .step-accepted) in
+    let e = update-gathers self config next on in
+    ⊎-elim
+    (λ p.
+    let r = closes-within config on samples (record { filter = self .filter; window = wider (self .window) next }) (p .1) (omega arith) in
+    (suc (r .0), omega arith, omega arith, closes-later self config next samples m (r .0) (e ∙ p .0) (r .3)))
+    (λ p. (1, omega arith, omega (arith, o .few), closes-now self config next samples m (e ∙ p .0) (p .1)))
+    (gathered-cases self (next .dt) config (next .sample) m)
 
 -- ---- at the least step
 
 -- no digit is lost
-pub least-steps-exact : (sample : ℕ → Sample) (n : ℕ) → n ≤ 820 → fed (λ _. least-step) sample n .«elapsed_s» ≡ steps n
-unfolding fed grown empty
-least-steps-exact sample zero h = unfold ofBits round in refl
-least-steps-exact sample (suc n) h = rw (least-steps-exact sample n (omega arith), one-step-more n (omega arith), add-one)
+least-steps-exact : {config : WindConfig} (samples : List (AcceptedSample config)) (w : Window) (n k : ℕ) → LeastSteps samples
+    → w .«elapsed_s» ≡ steps n → n + k ≤ 820 → k ≤ length samples → sums w (take k samples) .«elapsed_s» ≡ steps (n + k)
+unfolding sums grown
+least-steps-exact samples w n zero a e h l = rw add-zero e
+least-steps-exact [] w n (suc k) a e h l = absurd (omega arith)
+least-steps-exact (next ∷ samples) w n (suc k) a e h l =
+    let one-more : w .«elapsed_s» ⊕ next .dt ≡ steps (n + 1) = rw (e, a .0) (one-step-more n (omega arith)) in
+    let count : n + suc k ≡ n + 1 + k = omega arith in
+    rw count (least-steps-exact samples (grown w (next .dt) (next .sample)) (n + 1) k (a .1) one-more (omega arith) (le-of-suc-le-suc l))
 
 step-not-past : T (lt (steps 819) update-period)
 unfolding ofBits round lt
 step-not-past = tt
 
-least-step-accepted : Accepted least-step
-unfolding ofBits le
-least-step-accepted = record { at-least = tt; at-most = tt }
+past-period : (n : ℕ) → T (le update-period (steps n)) → 820 ≤ n
+past-period n l =
+    lt-of-not-le
+    (λ (h : n ≤ 819). lt-excludes (steps n) update-period (le-lt-trans (steps n) (steps 819) update-period (steps-mono n 819 h) step-not-past) l)
 
-open-to-819 : (sample : ℕ → Sample) → OpenTo (λ _. least-step) sample 819
-open-to-819 sample k l =
-    rw (least-steps-exact sample k (omega arith)) (le-lt-trans (steps k) (steps 819) update-period (steps-mono k 819 l) step-not-past)
+empty-exact : empty .«elapsed_s» ≡ steps 0
+unfolding empty ofBits round
+empty-exact = refl
 
--- the window closes at its 820th sample, whatever the samples
-pub reaches-820 : (sample : ℕ → Sample) → ClosesAt (λ _. least-step) sample 820
-reaches-820 sample =
-    let o = open-to-819 sample in
-    let p = so-far (λ _. least-step) sample (λ _. least-step-accepted) 819 o in
+-- ---- the claim
+
+module _ (self : WindEstimator) (config : WindConfig) (samples : List (AcceptedSample config)) (e : self .window ≡ empty) (on : is-on config ≡ true)
+    (many : 820 ≤ length samples) where
+  by-820 : (n : ℕ) × (1 ≤ n) × (n ≤ 820) × ClosesAt self config samples n
+  by-820 =
+      let r = closes-within config on samples self (rw e empty-open) (omega arith) in
+      (r .0, r .1, omega arith, r .3)
+
+  at-820 : LeastSteps samples → ClosesAt self config samples 820
+  at-820 least =
+      let r = by-820 in
+      let n = r .0 in
+      let exact = least-steps-exact samples (self .window) 0 n least (rw e empty-exact) (omega arith) (omega arith) in
+      let last : n ≡ 820 = omega (arith, past-period n (rw (exact, zero-add) at (r .3 .long))) in
+      rw last at (r .3)
+
+pub window-closes : WindowCloses
+unfolding update taken
+window-closes =
     record {
-      counted = next (λ _. least-step) sample (λ _. least-step-accepted) 819 (p .0) (p .1) .1;
-      open-before = open-before (λ _. least-step) sample 819 o;
-      closed-then = rw (least-steps-exact sample 820 (lit≤ tt)) period-passed;
+      by-820 = by-820;
+      at-820 = at-820;
+      others-change-nothing = λ self config dt state e. rw e (either-way (is-on config) self);
     }

@@ -1,6 +1,6 @@
 -- `records::flight::waits` meets its contract. Assumes nothing.
-use borrow.Author.Needs.{needs}
 use borrow.Author.Tests.{lt-ltb, le-ltb, eq-eqb, ne-eqb}
+use borrow.Author.Needs.{needs}
 use Rattle.records.specs.Flight.{waits}
 use Rattle.records.proofs.flight.waits.Statement.{statement}
 use Rattle.records.proofs.flight.waits.Tie as tie

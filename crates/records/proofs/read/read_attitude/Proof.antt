@@ -18,7 +18,13 @@ read-f32-requires-4 c κs = search needs
 
 returns : tie.Need-returns
 unfolding attitude-command
-returns c = rw (c .before .before .before .read-f32 .ensures, c .before .before .read-f322 .ensures, c .before .read-f323 .ensures, c .read-f324 .ensures)
+returns c =
+    rw (
+      c .before .before .before .read-f32 .ensures,
+      c .before .before .read-f322 .ensures,
+      c .before .read-f323 .ensures,
+      c .read-f324 .ensures,
+    )
 
 pub read-attitude-spec : {M : Type 1} → statement M
 read-attitude-spec =

@@ -1,6 +1,6 @@
 -- `records::read::read_f32` meets its contract. Assumes nothing.
 use borrow.Author.Needs.{needs}
-use Rattle.records.specs.Read.{float-at}
+use Rattle.records.specs.Layout.{float-at}
 use Rattle.records.proofs.read.read_f32.Statement.{statement}
 use Rattle.records.proofs.read.read_f32.Tie as tie
 

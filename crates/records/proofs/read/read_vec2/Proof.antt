@@ -1,6 +1,5 @@
 -- `records::read::read_vec2` meets its contract. Assumes nothing.
 use borrow.Author.Needs.{needs}
-use Rattle.records.specs.Read.{vec2-at}
 use Rattle.records.proofs.read.read_vec2.Statement.{statement}
 use Rattle.records.proofs.read.read_vec2.Tie as tie
 
@@ -14,7 +13,6 @@ read-f32-requires-2 : tie.Need-read-f32-requires-2
 read-f32-requires-2 c κs = search needs
 
 returns : tie.Need-returns
-unfolding vec2-at
 returns c = rw (c .before .read-f32 .ensures, c .read-f322 .ensures)
 
 pub read-vec2-spec : {M : Type 1} → statement M

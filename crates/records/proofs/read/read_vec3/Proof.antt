@@ -1,6 +1,5 @@
 -- `records::read::read_vec3` meets its contract. Assumes nothing.
 use borrow.Author.Needs.{needs}
-use Rattle.records.specs.Read.{vec3-at}
 use Rattle.records.proofs.read.read_vec3.Statement.{statement}
 use Rattle.records.proofs.read.read_vec3.Tie as tie
 
@@ -20,7 +19,6 @@ read-f32-requires-3 : tie.Need-read-f32-requires-3
 read-f32-requires-3 c κs = search needs
 
 returns : tie.Need-returns
-unfolding vec3-at
 returns c = rw (c .before .before .read-f32 .ensures, c .before .read-f322 .ensures, c .read-f323 .ensures)
 
 pub read-vec3-spec : {M : Type 1} → statement M

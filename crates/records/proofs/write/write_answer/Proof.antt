@@ -1,8 +1,7 @@
 -- `records::write::write_answer` meets its contract. Assumes nothing.
-use borrow.Author.Needs.{needs}
 use mathlib.Core.Path.{sym, ap, _∙_}
-use mathlib.Core.List.{[], _∷_}
 use denote.Ref.{now}
+use borrow.Author.Needs.{needs}
 use Rattle.records.specs.Answer.{answer-bytes}
 use Rattle.records.proofs.Written.{written-as-meant}
 use Rattle.records.proofs.write.write_answer.Statement.{statement}
@@ -41,20 +40,17 @@ write-refusal-requires c κs = search needs
 enum-told : tie.Need-enum-told
 enum-told c = search needs
 
+write-done-requires : tie.Need-write-done-requires
+write-done-requires c κs = search needs
+
+enum-told-2 : tie.Need-enum-told-2
+enum-told-2 c = search needs
+
 slice-aggregate-put-3 : tie.Need-slice-aggregate-put-3
 slice-aggregate-put-3 c = search needs
 
 put-requires-3 : tie.Need-put-requires-3
 put-requires-3 c κs = search needs
-
-enum-told-2 : tie.Need-enum-told-2
-enum-told-2 c = search needs
-
-slice-aggregate-put-4 : tie.Need-slice-aggregate-put-4
-slice-aggregate-put-4 c = search needs
-
-put-requires-4 : tie.Need-put-requires-4
-put-requires-4 c κs = search needs
 
 enum-known-answer-4 : tie.Need-enum-known-answer-4
 enum-known-answer-4 c = search needs
@@ -62,11 +58,11 @@ enum-known-answer-4 c = search needs
 wind-bytes-requires : tie.Need-wind-bytes-requires
 wind-bytes-requires c κs = search needs
 
-slice-aggregate-put-5 : tie.Need-slice-aggregate-put-5
-slice-aggregate-put-5 c = search needs
+slice-aggregate-put-4 : tie.Need-slice-aggregate-put-4
+slice-aggregate-put-4 c = search needs
 
-put-requires-5 : tie.Need-put-requires-5
-put-requires-5 c κs = search needs
+put-requires-4 : tie.Need-put-requires-4
+put-requires-4 c κs = search needs
 
 same-length : tie.Need-same-length
 same-length c = search needs
@@ -74,13 +70,10 @@ same-length c = search needs
 returns : tie.Need-returns
 unfolding answer-bytes
 returns c =
-    written-as-meant
-    (c .before .before .before .before .before .setpoint-bytes .result)
-    (answer-bytes (c .before .before .before .before .before .before .before .before .before .before .args .answer))
-    (now (c .before .before .before .before .before .before .before .before .before .before .args .out))
-    _
-    _
-    (c .before .before .before .before .before .setpoint-bytes .ensures ∙ sym (ap answer-bytes (c .before .before .before .before .before .before .before .answer .given .1)))
+    let made = c .before .before .before .before .before in
+    let given = made .before .before .before .before .before .args in
+    written-as-meant _ (answer-bytes (given .answer)) (now (given .out)) _ _
+    (made .setpoint-bytes .ensures ∙ sym (ap answer-bytes (made .before .before .answer .given .1)))
     (c .before .before .put .ensures)
 
 same-length-2 : tie.Need-same-length-2
@@ -89,13 +82,10 @@ same-length-2 c = search needs
 returns-2 : tie.Need-returns-2
 unfolding answer-bytes
 returns-2 c =
-    written-as-meant
-    (c .before .before .before .before .before .setpoint-bytes2 .result)
-    (answer-bytes (c .before .before .before .before .before .before .before .before .before .before .args .answer))
-    (now (c .before .before .before .before .before .before .before .before .before .before .args .out))
-    _
-    _
-    (c .before .before .before .before .before .setpoint-bytes2 .ensures ∙ sym (ap answer-bytes (c .before .before .before .before .before .before .before .answer2 .given .1)))
+    let made = c .before .before .before .before .before in
+    let given = made .before .before .before .before .before .args in
+    written-as-meant _ (answer-bytes (given .answer)) (now (given .out)) _ _
+    (made .setpoint-bytes2 .ensures ∙ sym (ap answer-bytes (made .before .before .answer2 .given .1)))
     (c .before .before .put2 .ensures)
 
 same-length-3 : tie.Need-same-length-3
@@ -104,12 +94,8 @@ same-length-3 c = search needs
 returns-3 : tie.Need-returns-3
 unfolding answer-bytes
 returns-3 c =
-    written-as-meant
-    _
-    (answer-bytes (c .before .before .before .before .before .before .before .before .args .answer))
-    (now (c .before .before .before .before .before .before .before .before .args .out))
-    _
-    _
+    let given = c .before .before .before .before .before .before .before .before .args in
+    written-as-meant _ (answer-bytes (given .answer)) (now (given .out)) _ _
     (sym (ap answer-bytes (c .before .before .before .before .before .answer3 .given .1)))
     (c .before .before .write-refusal .ensures)
 
@@ -119,14 +105,10 @@ same-length-4 c = search needs
 returns-4 : tie.Need-returns-4
 unfolding answer-bytes
 returns-4 c =
-    written-as-meant
-    (4 ∷ [])
-    (answer-bytes (c .before .before .before .before .before .before .before .before .args .answer))
-    (now (c .before .before .before .before .before .before .before .before .args .out))
-    _
-    _
-    (sym (ap answer-bytes (c .before .before .before .before .before .enum-told .given .1)))
-    (c .before .before .put3 .ensures)
+    let given = c .before .before .before .before .before .before .before .args in
+    written-as-meant _ (answer-bytes (given .answer)) (now (given .out)) _ _
+    (sym (ap answer-bytes (c .before .before .before .before .enum-told .given .1)))
+    (c .before .before .write-done .ensures)
 
 same-length-5 : tie.Need-same-length-5
 same-length-5 c = search needs
@@ -134,14 +116,10 @@ same-length-5 c = search needs
 returns-5 : tie.Need-returns-5
 unfolding answer-bytes
 returns-5 c =
-    written-as-meant
-    (5 ∷ [])
-    (answer-bytes (c .before .before .before .before .before .before .before .before .args .answer))
-    (now (c .before .before .before .before .before .before .before .before .args .out))
-    _
-    _
+    let given = c .before .before .before .before .before .before .before .before .args in
+    written-as-meant _ (answer-bytes (given .answer)) (now (given .out)) _ _
     (sym (ap answer-bytes (c .before .before .before .before .before .enum-told2 .given .1)))
-    (c .before .before .put4 .ensures)
+    (c .before .before .put3 .ensures)
 
 same-length-6 : tie.Need-same-length-6
 same-length-6 c = search needs
@@ -149,14 +127,11 @@ same-length-6 c = search needs
 returns-6 : tie.Need-returns-6
 unfolding answer-bytes
 returns-6 c =
-    written-as-meant
-    (c .before .before .before .before .before .wind-bytes .result)
-    (answer-bytes (c .before .before .before .before .before .before .before .before .before .before .args .answer))
-    (now (c .before .before .before .before .before .before .before .before .before .before .args .out))
-    _
-    _
-    (c .before .before .before .before .before .wind-bytes .ensures ∙ sym (ap answer-bytes (c .before .before .before .before .before .before .before .answer4 .given .1)))
-    (c .before .before .put5 .ensures)
+    let made = c .before .before .before .before .before in
+    let given = made .before .before .before .before .before .args in
+    written-as-meant _ (answer-bytes (given .answer)) (now (given .out)) _ _
+    (made .wind-bytes .ensures ∙ sym (ap answer-bytes (made .before .before .answer4 .given .1)))
+    (c .before .before .put4 .ensures)
 
 pub write-answer-spec : {M : Type 1} → statement M
 write-answer-spec =
@@ -173,15 +148,14 @@ write-answer-spec =
     enum-known-answer-3
     write-refusal-requires
     enum-told
+    write-done-requires
+    enum-told-2
     slice-aggregate-put-3
     put-requires-3
-    enum-told-2
-    slice-aggregate-put-4
-    put-requires-4
     enum-known-answer-4
     wind-bytes-requires
-    slice-aggregate-put-5
-    put-requires-5
+    slice-aggregate-put-4
+    put-requires-4
     same-length
     returns
     same-length-2

@@ -4,24 +4,12 @@ use Rattle.copter.specs.Config.{default-config}
 use Rattle.copter.proofs.config.CopterGuidanceConfig.default.Statement.{statement}
 use Rattle.copter.proofs.config.CopterGuidanceConfig.default.Tie as tie
 
-default-altitude-requires : tie.Need-default-altitude-requires
-default-altitude-requires c κs = search needs
-
-default-lateral-requires : tie.Need-default-lateral-requires
-default-lateral-requires c κs = search needs
-
-default-guidance-requires : tie.Need-default-guidance-requires
-default-guidance-requires c κs = search needs
-
-default-requires : tie.Need-default-requires
-default-requires c κs = search needs
-
-default-wind-requires : tie.Need-default-wind-requires
-default-wind-requires c κs = search needs
+of-fields-requires : tie.Need-of-fields-requires
+of-fields-requires c κs = search needs
 
 returns : tie.Need-returns
 unfolding default-config
-returns c = cc
+returns c = c .of-fields .ensures
 
 pub default-spec : {M : Type 1} → statement M
-default-spec = tie.close (tie.spec default-altitude-requires default-lateral-requires default-guidance-requires default-requires default-wind-requires returns)
+default-spec = tie.close (tie.spec of-fields-requires returns)

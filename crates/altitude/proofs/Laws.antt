@@ -1,7 +1,4 @@
--- Laws of the definitions of specs/. Lateral control shares Cases, Feed and Within.
-pub mod Cases
-pub mod Feed
-pub mod Within
+-- Laws of the definitions of specs/.
 pub mod NotFinite
 pub mod Integral
 pub mod Thrust

@@ -2,20 +2,16 @@
 use Rattle.std.specs.Prelude.{cond, ◌&&◌, Float}
 use Rattle.std.specs.Float.Ieee.{lt}
 use Rattle.std.specs.Float.Ieee.Scale.{finite}
-use Rattle.floats.specs.Ops.{f32, ◌⊕◌, ◌⊖◌, ◌⊗◌, ◌⊘◌}
+use Rattle.floats.specs.Ops.{◌⊕◌, ◌⊖◌, ◌⊗◌, ◌⊘◌}
 use Rattle.floats.specs.Compare.{abs}
 use Rattle.floats.specs.MinMax.{clamp}
-use Rattle.math.specs.Math.{zero, one, clamp_symmetric, tilt_boost}
+use Rattle.math.specs.Math.{zero, one, gravity, clamp_symmetric, tilt_boost}
 use Rattle.math.specs.declared.vectors.Quaternion.{Quaternion}
 use Rattle.altitude.specs.declared.AltitudeControllerConfig.{AltitudeControllerConfig}
 use Rattle.altitude.specs.declared.AltitudeTarget.{AltitudeTarget}
 use Rattle.altitude.specs.declared.AltitudeEstimate.{AltitudeEstimate}
 use Rattle.altitude.specs.declared.AltitudeController.{AltitudeController}
 use Rattle.altitude.specs.declared.AltitudeControl.{AltitudeControl}
-
--- standard gravity, 9.80665 m/s²
-abbrev pub gravity : Float
-gravity = f32 0x411C_E80A
 
 -- nothing integrated yet
 unfoldable pub fresh : AltitudeController

@@ -1,14 +1,17 @@
 // Altitude control, from controllers/altitude.rs: an altitude and a climb rate to a thrust.
+#![tactic(auto)]
+
 ghost use Rattle.std.specs.Prelude.{◌≡◌};
 ghost use Rattle.altitude.specs.Altitude.{fresh, control, integrated, thrust};
 
 use controllers::Gains;
+use math::GRAVITY;
 use math::vectors::Quaternion;
 
 // The gains turn metres of altitude error into m/s². The integral, in metres times seconds, grows
 // only while the error is within the band, and stays within its limit. `hover_thrust` holds a level
 // hover.
-#[derive(Drop)]
+#[derive(Clone, Copy)]
 pub struct AltitudeControllerConfig {
     pub gains: Gains,
     pub max_integral: f32,
@@ -16,26 +19,27 @@ pub struct AltitudeControllerConfig {
     pub integration_band_m: f32,
 }
 
-#[derive(Drop)]
+#[derive(Clone, Copy)]
 pub struct AltitudeTarget {
     pub altitude_m: f32,
     pub velocity_mps: f32,
 }
 
-#[derive(Drop)]
+#[derive(Clone, Copy)]
 pub struct AltitudeEstimate {
     pub altitude_m: f32,
     pub velocity_mps: f32,
     pub attitude: Quaternion,
 }
 
-#[derive(Drop)]
+#[derive(Clone, Copy)]
 pub struct AltitudeController {
     pub integrated_error: f32,
 }
 
-// The controller after a call, and the thrust that it asks for, in [0, 1] or a NaN.
-#[derive(Drop)]
+// The controller after a call, and the thrust that it asks for: in [0, 1], or a NaN, or the hover
+// thrust as it is configured.
+#[derive(Clone, Copy)]
 pub struct AltitudeControl {
     pub controller: AltitudeController,
     pub thrust: f32,
@@ -116,7 +120,7 @@ fn thrust(
     let acceleration = config.gains.p * altitude_error
         + config.gains.d * velocity_error
         + config.gains.i * integrated_error;
-    let linear_thrust = config.hover_thrust * (9.80665 + acceleration) / 9.80665
+    let linear_thrust = config.hover_thrust * (GRAVITY + acceleration) / GRAVITY
         * math::tilt_boost(attitude);
     floats::minmax::clamp(linear_thrust, 0.0, 1.0)
 }

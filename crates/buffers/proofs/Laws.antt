@@ -1,2 +1,2 @@
--- Laws of the definitions of specs/.
+-- Laws of moved bytes.
 pub mod Moved

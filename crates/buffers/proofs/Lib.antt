@@ -1,2 +1,2 @@
--- What the programs cite of the buffers. Assumes nothing.
+-- What the proofs of the functions share. Assumes nothing.
 pub mod Laws

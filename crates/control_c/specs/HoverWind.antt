@@ -8,7 +8,7 @@ use Rattle.heading.specs.declared.hover_wind.HoverWind.{HoverWind}
 use Rattle.control_c.specs.declared.memory.HeldNumber.{HeldNumber}
 use Rattle.control_c.specs.declared.memory.HeldEstimate.{HeldEstimate}
 use Rattle.control_c.specs.Calls.{at, vec2}
-use Rattle.control_c.specs.Missing.{filter, held_filter, ground, held_ground, number_from, estimate_from}
+use Rattle.control_c.specs.Missing.{filter, held_filter, ground_of, held_ground, number_from, estimate_from}
 
 -- The window's sums in places 7 to 16; its count of samples is a number of its own.
 abbrev pub window : List Float → ℕ → Window
@@ -28,7 +28,7 @@ abbrev pub memory : List Float → ℕ → HoverWind
 memory m ticks =
     record {
       estimator = record { filter = filter (estimate_from m 0); window = window m ticks };
-      ground_altitude_m = ground (number_from m 17);
+      ground_altitude_m = ground_of (number_from m 17);
     }
 
 -- Fields 42 to 50.
@@ -50,14 +50,14 @@ call before l state = update before (at l 10) (config l) (at l 9) state
 
 -- the numbers of a memory
 abbrev listed : HeldEstimate → Window → HeldNumber → List Float
-listed e window ground =
+listed e window altitude =
     e.flag ∷ e.estimate.velocity_mps.x ∷ e.estimate.velocity_mps.y ∷
     e.estimate.covariance_m2ps2.m00 ∷ e.estimate.covariance_m2ps2.m01 ∷
     e.estimate.covariance_m2ps2.m10 ∷ e.estimate.covariance_m2ps2.m11 ∷
     window.elapsed_s ∷ window.specific_force_mps2.x ∷ window.specific_force_mps2.y ∷
     window.ground_along_mps.x ∷ window.ground_along_mps.y ∷
     window.axis_x.x ∷ window.axis_x.y ∷ window.axis_y.x ∷ window.axis_y.y ∷
-    window.axial_mps ∷ ground.flag ∷ ground.number ∷ []
+    window.axial_mps ∷ altitude.flag ∷ altitude.number ∷ []
 
 abbrev pub numbers : HoverWind → List Float
 numbers after = listed (held_filter after.estimator.filter) after.estimator.window (held_ground after.ground_altitude_m)

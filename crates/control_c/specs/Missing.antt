@@ -37,8 +37,8 @@ unfoldable pub held_side : Side → HeldNumber
 held_side Unpicked = no_number
 held_side (Picked side) = some_number side
 
-unfoldable pub ground : HeldNumber → GroundAltitude
-ground held = cond (eq held.flag zero) grounds.Nothing (grounds.Metres held.number)
+unfoldable pub ground_of : HeldNumber → GroundAltitude
+ground_of held = cond (eq held.flag zero) grounds.Nothing (grounds.Metres held.number)
 
 unfoldable pub held_ground : GroundAltitude → HeldNumber
 held_ground grounds.Nothing = no_number

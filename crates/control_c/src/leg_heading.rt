@@ -11,7 +11,7 @@ use heading::{Angle, HeadingConfig};
 use math::vectors::Vec2;
 
 // A flag, 0.0 where there is no leg, and a leg.
-#[derive(Drop)]
+#[derive(Clone, Copy)]
 pub struct HeldLeg {
     pub flag: f32,
     pub leg: Leg,

@@ -1,5 +1,7 @@
 // Wrap, altitude control, lateral control, a wind update and a step of the leg's heading under C names,
 // for the driver of bench/, which is not in Rattle. The specs say what stands where in an array.
+#![tactic(auto)]
+
 mod hover_wind;
 mod leg_heading;
 mod memory;

@@ -1,7 +1,7 @@
 // Memory that may be missing, as numbers.
 ghost use Rattle.std.specs.Prelude.{◌≡◌, ◌+◌, ◌<◌, length};
 ghost use Rattle.control_c.specs.Calls.{history, held_history, shaped, held_shaped};
-ghost use Rattle.control_c.specs.Missing.{angle, held_angle, side, held_side, ground, held_ground, filter, held_filter, number_from, estimate_from};
+ghost use Rattle.control_c.specs.Missing.{angle, held_angle, side, held_side, ground_of, held_ground, filter, held_filter, number_from, estimate_from};
 
 use controllers::derivative::DerivativeState;
 use heading::Angle;
@@ -13,21 +13,21 @@ use wind::estimate::{Matrix2, WindEstimate};
 use wind::window::Filter;
 
 // A flag, 0.0 where there is nothing, and a vector.
-#[derive(Drop)]
+#[derive(Clone, Copy)]
 pub struct Held {
     pub flag: f32,
     pub vector: Vec2,
 }
 
 // The same with a number.
-#[derive(Drop)]
+#[derive(Clone, Copy)]
 pub struct HeldNumber {
     pub flag: f32,
     pub number: f32,
 }
 
 // The same with a wind estimate.
-#[derive(Drop)]
+#[derive(Clone, Copy)]
 pub struct HeldEstimate {
     pub flag: f32,
     pub estimate: WindEstimate,
@@ -134,7 +134,7 @@ impl HeldNumber {
     }
 
     pub fn ground(self) -> GroundAltitude
-        ensures { result ≡ ground self }
+        ensures { result ≡ ground_of self }
     {
         if self.flag == 0.0 {
             return GroundAltitude::Nothing;

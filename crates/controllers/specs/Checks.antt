@@ -2,8 +2,7 @@
 use Rattle.std.specs.Prelude.{Bool, ◌&&◌, Float}
 use Rattle.std.specs.Float.Ieee.{lt, le}
 use Rattle.std.specs.Float.Ieee.Scale.{finite}
-use Rattle.floats.specs.Ops.{f32}
-use Rattle.math.specs.Math.{zero, one}
+use Rattle.math.specs.Math.{zero, one, half_pi}
 
 -- non-negative and finite
 unfoldable pub check_limit : Float → Bool
@@ -19,4 +18,4 @@ check_unit_interval value = lt zero value && le value one
 
 -- in (0, π/2)
 unfoldable pub check_tilt : Float → Bool
-check_tilt value = lt zero value && lt value (f32 0x3FC9_0FDB)
+check_tilt value = lt zero value && lt value half_pi

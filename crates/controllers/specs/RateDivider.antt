@@ -32,8 +32,10 @@ shortest = f32 0x3980_0000
 abbrev pub longest : Float
 longest = f32 0x4B80_0000
 
-abbrev pub Accepted : Float → Type 0
-Accepted dt = T (le shortest dt) × T (le dt one)
+-- a time step that document 01 accepts
+pub record Accepted (dt : Float) : Type 0 where
+  pub at_least : T (le shortest dt)
+  pub at_most : T (le dt one)
 
 abbrev pub Legal : Float → Type 0
 Legal t = T (le shortest t) × T (le t longest)

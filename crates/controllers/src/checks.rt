@@ -37,7 +37,7 @@ pub fn check_tilt(value: f32) -> bool
     ensures { result ≡ check_tilt value }
 {
     if value > 0.0 {
-        return value < 1.5707964;
+        return value < math::FRAC_PI_2;
     }
     false
 }

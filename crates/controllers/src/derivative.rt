@@ -6,14 +6,14 @@ ghost use Rattle.controllers.specs.Derivative.{step, forget};
 use math::vectors::Vec2;
 
 // The error of the last step; none at first and after a step whose error was not finite.
-#[derive(Drop)]
+#[derive(Clone, Copy)]
 pub enum DerivativeState {
     Empty,
     Previous(Vec2),
 }
 
 // The history after a step, and the derivative.
-#[derive(Drop)]
+#[derive(Clone, Copy)]
 pub struct DerivativeStep {
     pub state: DerivativeState,
     pub derivative: Vec2,

@@ -1,11 +1,13 @@
 // What the controllers share: the rate divider, the derivative's history, the gains and the checks
 // of a configuration's numbers.
+#![tactic(auto)]
+
 pub mod checks;
 pub mod derivative;
 pub mod rate_divider;
 
 // The gains of a PID controller.
-#[derive(Drop)]
+#[derive(Clone, Copy)]
 pub struct Gains {
     pub p: f32,
     pub i: f32,

@@ -3,21 +3,21 @@ ghost use Rattle.std.specs.Prelude.{◌≡◌};
 ghost use Rattle.controllers.specs.RateDivider.{due, ran, reset};
 
 // Seconds since the loop last ran; none before its first run and after a reset.
-#[derive(Drop)]
+#[derive(Clone, Copy)]
 pub enum RateDivider {
     NeverRan,
     Elapsed(f32),
 }
 
 // The time that the loop steps over, if it is due.
-#[derive(Drop)]
+#[derive(Clone, Copy)]
 pub enum Due {
     Step(f32),
     NotYet,
 }
 
 // The divider after a call, and whether the loop is due.
-#[derive(Drop)]
+#[derive(Clone, Copy)]
 pub struct Paced {
     pub divider: RateDivider,
     pub due: Due,
@@ -25,7 +25,7 @@ pub struct Paced {
 
 impl RateDivider {
     // Advances by `dt` seconds for a loop that runs every `period` seconds. A loop that is due and
-    // does not run stays due.
+    // does not run is due again at the next call, if that call's `dt` is no shorter.
     pub fn due(self, dt: f32, period: f32) -> Paced
         ensures { result ≡ due self dt period }
     {

@@ -1,5 +1,5 @@
--- Document 01's "What each call does", sentence by sentence: `EachCraft` is what holds of a craft, `EachCall` of an accepted call that it gets. Both hold of every
--- craft that a list of records leads to (proofs/Laws/Facts.antt, and records/specs/Facts.antt over whole lists). Assumes nothing.
+-- Document 01's "What each call does", sentence by sentence: `EachCraft` is what holds of a craft, `EachCall` of an accepted call that it gets. Both hold of
+-- every craft that a list of records leads to (proofs/Laws/Facts.antt, and records/specs/Facts.antt over whole lists). Assumes nothing.
 use Rattle.std.specs.Prelude.{◌<◌, ◌≡◌, Bool, true, false, not, cond, ◌&&◌, ◌⊎◌, T, Float}
 use Rattle.std.specs.Float.{nan}
 use Rattle.std.specs.Float.Ieee.{neg, lt, le, is_nan}
@@ -10,23 +10,27 @@ use Rattle.math.specs.Math.{zero, half, one, pi, saturate_unit, all_finite, wrap
 use Rattle.math.specs.Vectors.{zeros, minus}
 use Rattle.math.specs.declared.vectors.Vec2.{Vec2}
 use Rattle.math.specs.declared.vectors.Vec3.{Vec3}
-use Rattle.controllers.specs.RateDivider.{due, reset, Legal, Bounded}
+use Rattle.controllers.specs.RateDivider.{due, Legal, Bounded}
 use Rattle.controllers.specs.declared.rate_divider.RateDivider.{RateDivider}
 use Rattle.controllers.specs.declared.rate_divider.RateDivider.TheVariants.{NeverRan, Elapsed}
 use Rattle.controllers.specs.declared.rate_divider.Due.TheVariants.{Step, NotYet}
 use Rattle.controllers.specs.declared.rate_divider.Paced.{Paced}
-use Rattle.lateral.specs.Lateral as lateral
+use Rattle.controllers.specs.declared.derivative.DerivativeState.TheVariants.{Empty}
+use Rattle.lateral.specs.declared.ShapedVelocity.TheVariants as shaped
 use Rattle.altitude.specs.declared.AltitudeTarget.{AltitudeTarget}
 use Rattle.wind.specs.Window.{Updated}
 use Rattle.wind.specs.declared.state.VehicleState.{VehicleState}
+use Rattle.wind.specs.declared.window.Filter.TheVariants as filters
 use Rattle.heading.specs.HoverWind.{FiniteGround}
 use Rattle.heading.specs.HoverWind as hover
 use Rattle.heading.specs.LegHeading.{New, started, on_leg, here_of, finite_angle, may_yield}
 use Rattle.heading.specs.LegHeading as leg
 use Rattle.heading.specs.declared.Angle.{Angle}
 use Rattle.heading.specs.declared.Angle.TheVariants as angles
+use Rattle.heading.specs.declared.wind_heading.Side.TheVariants.{Unpicked}
 use Rattle.heading.specs.declared.leg_heading.Leg.{Leg}
 use Rattle.heading.specs.declared.leg_heading.LegMemory.TheVariants as legs
+use Rattle.heading.specs.declared.leg_heading.LegHeading.{LegHeading}
 use Rattle.heading.specs.declared.leg_heading.Bearing.{Bearing}
 use Rattle.heading.specs.declared.leg_heading.Turn.{Turn}
 use Rattle.copter.specs.declared.commands.AttitudeCommand.{AttitudeCommand}
@@ -46,10 +50,9 @@ use Rattle.copter.specs.declared.memory.CopterGuidance.{CopterGuidance}
 use Rattle.copter.specs.declared.tilt.Course.{Course}
 use Rattle.copter.specs.declared.guide.Guided.{Guided}
 use Rattle.copter.specs.Config.{Valid}
-use Rattle.copter.specs.Memory.{level}
-use Rattle.copter.specs.Descent.{ramped, level_at}
+use Rattle.copter.specs.Descent.{ramped_descent, level_at}
 use Rattle.copter.specs.Tilt.{velocity_or_zero}
-use Rattle.copter.specs.Guide.{command_heading, wind_updated, navigated_thrust, climb, waypoint_call}
+use Rattle.copter.specs.Guide.{command_heading, wind_updated, navigated_thrust, altitude_control, waypoint_call}
 
 -- ---- every craft
 
@@ -115,15 +118,19 @@ land_turn self dt state =
 
 -- ---- piloted calls: attitude, absolute attitude, absolute rate
 
+-- no leg, no yield count and no yielding, and of the wind no side, no heading and no estimate weighed
+abbrev pub leg_reset : LegHeading
+leg_reset =
+    record { leg = legs.Nothing; stuck_s = zero; yielding = false; wind = record { side = Unpicked; target_rad = angles.Nothing; weighed = filters.Nothing } }
+
 -- Altitude and lateral memory, requested acceleration, altitude target, descent speed, rate divider and leg heading are reset. Stored tilt is not.
 pub record Resets (before after : Memory) : Type 0 where
-  pub vertical : after.vertical ≡ level
-  pub no_target : after.vertical.target ≡ hold.Nothing
-  pub at_rest : after.vertical.descent_speed_mps ≡ zero
-  pub controller : after.lateral.controller ≡ lateral.fresh
+  pub altitude : after.vertical ≡ record { controller = record { integrated_error = zero }; target = hold.Nothing; descent_speed_mps = zero }
+  pub lateral : after.lateral.controller
+      ≡ record { integrated_error = zeros; derivative = Empty; shaped_velocity_mps = shaped.Nothing; commanded_velocity_mps = zeros }
   pub requested : after.lateral.requested_accel_mps2 ≡ zeros
-  pub divider : after.lateral.rate ≡ reset
-  pub leg_heading : after.leg_heading ≡ leg.fresh
+  pub divider : after.lateral.rate ≡ NeverRan
+  pub leg_heading : after.leg_heading ≡ leg_reset
   pub tilt_stays : after.lateral.tilt_rad ≡ before.lateral.tilt_rad
   pub capped_stays : after.lateral.tilt_capped ≡ before.lateral.tilt_capped
 
@@ -211,7 +218,7 @@ NanOrFrom least x = (x ≡ nan) ⊎ (T (le least x) × T (le x one))
 -- the thrust, the altitude target and the descent speed of a call that holds an altitude target
 pub record Holds (self : CopterGuidance) (dt : Float) (state : VehicleState) (target : AltitudeTarget) (after : Guided) : Type 0 where
   pub thrust : thrust_of after.setpoint
-      ≡ (navigated_thrust (climb self.memory.vertical self.config dt target state).thrust self.config.thrust.min_thrust).value
+      ≡ (navigated_thrust (altitude_control self.memory.vertical self.config dt target state).thrust self.config.thrust.min_thrust).value
   pub no_target : after.craft.memory.vertical.target ≡ hold.Nothing
   pub at_rest : after.craft.memory.vertical.descent_speed_mps ≡ zero
 
@@ -255,8 +262,8 @@ leg_cleared self =
           };
     }
 
--- A new position sets the yield count to 0 and ends yielding, before this call is counted, and the whole call goes as if both had been forgotten before it. It
--- starts a new leg if the craft's own x and y are finite; else no leg is remembered.
+-- A new position sets the yield count to 0 and ends yielding, before this call is counted, and the whole call goes as if both had been forgotten before it.
+-- It starts a new leg if the craft's own x and y are finite; else no leg is remembered.
 pub record NewPosition (self : CopterGuidance) (dt : Float) (state : VehicleState) (command : WaypointCommand) (after : Guided) : Type 0 where
   pub count_zero : (leg_flown self state command).memory.stuck_s ≡ zero
   pub not_yielding : (leg_flown self state command).memory.yielding ≡ false
@@ -292,7 +299,7 @@ pub record Legs (self : CopterGuidance) (dt : Float) (state : VehicleState) (com
   pub stays_on_leg : (flown : Leg) → finite_angle command.heading_rad ≡ angles.Nothing → self.memory.leg_heading.leg ≡ legs.Flown flown
       → on_leg flown command.position_m ≡ true → after.craft.memory.leg_heading.leg ≡ legs.Flown flown
   -- A finite commanded heading resets the leg heading.
-  pub commanded_resets : (heading : Float) → finite_angle command.heading_rad ≡ angles.Rad heading → after.craft.memory.leg_heading ≡ leg.fresh
+  pub commanded_resets : (heading : Float) → finite_angle command.heading_rad ≡ angles.Rad heading → after.craft.memory.leg_heading ≡ leg_reset
   -- The yield count goes on by dt while the craft cannot bring its nose round, else it is 0; with the first count above field 31 the call yields.
   pub counts : LegCall self dt state command → (leg_flown self state command).memory.yielding ≡ false →
       let config = self.config.guidance.heading in
@@ -342,7 +349,7 @@ pub record LandCall (self : CopterGuidance) (dt : Float) (state : VehicleState) 
   pub answers_heading : AnswersHeading after
   -- With no target and no finite altitude, land has a NaN target.
   pub nan_target : NoAltitude self state →
-      let rate = ramped self.config dt self.config.guidance.land_speed_mps self.memory.vertical.descent_speed_mps in
+      let rate = ramped_descent self.config dt self.config.guidance.land_speed_mps self.memory.vertical.descent_speed_mps in
       Holds self dt state (record { altitude_m = nan; velocity_mps = neg rate }) after
   -- After a land call, descent speed is at most field 25.
   pub descent_speed : T (le after.craft.memory.vertical.descent_speed_mps self.config.guidance.land_speed_mps)

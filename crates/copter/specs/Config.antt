@@ -1,5 +1,5 @@
--- The 50 fields of a configuration in document 01's order: the rule and the default of each, said once, and the configuration that 50 numbers make. The rules are
--- those of the Rust for 7 and 11 to 41, and document 01's own for the rest. Assumes nothing.
+-- The 50 fields of a configuration in document 01's order: the rule and the default of each, said once, and the configuration that 50 numbers make. The
+-- rules are those of the Rust for 7 and 11 to 41, and document 01's own for the rest. Assumes nothing.
 use Rattle.std.specs.Prelude.{ℕ, zero, suc, ◌-◌, Bool, true, cond, ◌&&◌, List, [], ◌∷◌, map, T, get_or, Float}
 use Rattle.std.specs.Float.{nan}
 use Rattle.std.specs.Float.Ieee.{lt, le}

@@ -27,8 +27,8 @@ descent_start Nothing speed altitude climb =
 descent_start (Height start) speed altitude climb = From (record { start_m = start; speed_mps = speed })
 
 -- at most the last speed and what a climb is shed with, or a descent speeds up with, in dt
-unfoldable pub ramped : CopterGuidanceConfig → Float → Float → Float → Float
-ramped config dt limit speed =
+unfoldable pub ramped_descent : CopterGuidanceConfig → Float → Float → Float → Float
+ramped_descent config dt limit speed =
     let accel = cond (lt speed zero) config.guidance.climb_decel_mps2 config.guidance.descent_accel_mps2 in
     min limit (speed ⊕ accel ⊗ dt)
 
@@ -48,7 +48,7 @@ level_at height = record { altitude_m = height; velocity_mps = zero }
 
 unfoldable pub toward : CopterGuidanceConfig → Float → Float → Float → Descent → AltitudeTarget
 toward config dt waypoint altitude from =
-    let rate = ramped config dt (descent_rate config (from.start_m ⊖ waypoint)) from.speed_mps in
+    let rate = ramped_descent config dt (descent_rate config (from.start_m ⊖ waypoint)) from.speed_mps in
     let step = lowered from.start_m (rate ⊗ dt) altitude config.guidance.altitude_leash_m in
     cond (lt waypoint step)
     (record { altitude_m = step; velocity_mps = neg (min (descent_rate config (step ⊖ waypoint)) rate) })
@@ -77,10 +77,10 @@ landing height rate =
 
 unfoldable pub landed_from : DescentStart → CopterGuidanceConfig → Float → Float → Float → Descended
 landed_from Unknown config dt speed altitude =
-    let rate = ramped config dt config.guidance.land_speed_mps speed in
+    let rate = ramped_descent config dt config.guidance.land_speed_mps speed in
     record { target = record { altitude_m = nan; velocity_mps = neg rate }; hold = Nothing; speed_mps = zero }
 landed_from (From from) config dt speed altitude =
-    let rate = ramped config dt config.guidance.land_speed_mps from.speed_mps in
+    let rate = ramped_descent config dt config.guidance.land_speed_mps from.speed_mps in
     landing (lowered from.start_m (rate ⊗ dt) altitude config.guidance.altitude_leash_m) rate
 
 unfoldable pub land_descent : CopterGuidanceConfig → Float → AltitudeHold → Float → Float → Float → Descended

@@ -29,11 +29,11 @@ use Rattle.copter.specs.declared.memory.LateralMemory.{LateralMemory}
 use Rattle.copter.specs.declared.memory.Memory.{Memory}
 use Rattle.copter.specs.declared.memory.CopterGuidance.{CopterGuidance}
 use Rattle.copter.specs.declared.thrust.Thrust.{Thrust}
-use Rattle.copter.specs.declared.thrust.Held.{Held}
+use Rattle.copter.specs.declared.thrust.PilotedThrust.{PilotedThrust}
 use Rattle.copter.specs.declared.descent.Descended.{Descended}
 use Rattle.copter.specs.declared.tilt.Course.{Course}
 use Rattle.copter.specs.declared.guide.Guided.{Guided}
-use Rattle.copter.specs.Memory.{level, upright, idled, fresh}
+use Rattle.copter.specs.Memory.{fresh_vertical, fresh_lateral, reset_lateral, fresh}
 use Rattle.copter.specs.Thrust.{floor_thrust, hold_piloted, hold_absolute, boosted}
 use Rattle.copter.specs.Descent.{descend_toward, land_descent}
 use Rattle.copter.specs.Tilt.{tilt_toward}
@@ -62,7 +62,7 @@ wind_updated self config dt state = hover.update self.wind dt config.wind config
 -- All of navigation reset: the vertical and lateral loops and the leg heading. The stored tilt and its flag stay.
 abbrev pub released : LateralMemory → Float → HoverWind → Memory
 released lateral heading wind =
-    record { vertical = level; lateral = idled lateral; heading_rad = heading; leg_heading = leg.fresh; wind = wind }
+    record { vertical = fresh_vertical; lateral = reset_lateral lateral; heading_rad = heading; leg_heading = leg.fresh; wind = wind }
 
 -- what every call but waypoint and land leaves
 unfoldable pub piloted : Memory → CopterGuidanceConfig → Float → VehicleState → Float → Memory
@@ -70,7 +70,7 @@ piloted self config dt state heading = released self.lateral heading (wind_updat
 
 -- ---- piloted calls
 
-unfoldable pub piloted_flags : Held → Flags
+unfoldable pub piloted_flags : PilotedThrust → Flags
 piloted_flags held = record { tilt = false; thrust = held.saturated; idle = held.idle }
 
 -- sticks scaled to angles; the yaw stick turns the heading target
@@ -146,8 +146,8 @@ navigated_thrust linear least =
     let floored = floor_thrust linear least in
     record { value = floored.value; saturated = le linear zero || le one linear || floored.saturated }
 
-unfoldable pub climb : VerticalMemory → CopterGuidanceConfig → Float → AltitudeTarget → VehicleState → AltitudeControl
-climb vertical config dt target state =
+unfoldable pub altitude_control : VerticalMemory → CopterGuidanceConfig → Float → AltitudeTarget → VehicleState → AltitudeControl
+altitude_control vertical config dt target state =
     control vertical.controller config.altitude dt target
     (record { altitude_m = state.position_m.z; velocity_mps = state.velocity_mps.z; attitude = state.attitude })
 
@@ -159,7 +159,7 @@ fly_to self dt state course descended turn wind =
     let turned = heading_target before.heading_rad turn.heading_rad state.heading_rad in
     let heading = heading_target turned turned state.heading_rad in
     let tilted = tilt_toward before.lateral config dt course (hover.estimate wind) state in
-    let controlled = climb before.vertical config dt descended.target state in
+    let controlled = altitude_control before.vertical config dt descended.target state in
     let thrust = navigated_thrust controlled.thrust config.thrust.min_thrust in
     record {
       craft =
@@ -237,8 +237,8 @@ prime self state =
       config = self.config;
       memory =
           record {
-            vertical = level;
-            lateral = upright;
+            vertical = fresh_vertical;
+            lateral = fresh_lateral;
             heading_rad = state.heading_rad;
             leg_heading = leg.fresh;
             wind = hover.prime self.memory.wind self.config.guidance.airborne_height_m state;

@@ -12,17 +12,17 @@ use Rattle.copter.specs.declared.memory.VerticalMemory.{VerticalMemory}
 use Rattle.copter.specs.declared.memory.LateralMemory.{LateralMemory}
 use Rattle.copter.specs.declared.memory.Memory.{Memory}
 
--- the vertical loop with no target
-unfoldable pub level : VerticalMemory
-level = record { controller = altitude.fresh; target = hold.Nothing; descent_speed_mps = zero }
+-- the vertical loop as it starts, with no target
+unfoldable pub fresh_vertical : VerticalMemory
+fresh_vertical = record { controller = altitude.fresh; target = hold.Nothing; descent_speed_mps = zero }
 
 -- the lateral loop before its first run
-unfoldable pub upright : LateralMemory
-upright = record { controller = lateral.fresh; rate = reset; tilt_rad = zeros; tilt_capped = false; requested_accel_mps2 = zeros }
+unfoldable pub fresh_lateral : LateralMemory
+fresh_lateral = record { controller = lateral.fresh; rate = reset; tilt_rad = zeros; tilt_capped = false; requested_accel_mps2 = zeros }
 
--- all but the stored tilt and whether it was capped
-unfoldable pub idled : LateralMemory → LateralMemory
-idled self =
+-- reset, all but the stored tilt and whether it was capped
+unfoldable pub reset_lateral : LateralMemory → LateralMemory
+reset_lateral self =
     record {
       controller = lateral.fresh;
       rate = reset;
@@ -33,4 +33,4 @@ idled self =
 
 -- what `CopterGuidance::new` sets
 unfoldable pub fresh : Memory
-fresh = record { vertical = level; lateral = upright; heading_rad = zero; leg_heading = leg.fresh; wind = wind.fresh }
+fresh = record { vertical = fresh_vertical; lateral = fresh_lateral; heading_rad = zero; leg_heading = leg.fresh; wind = wind.fresh }

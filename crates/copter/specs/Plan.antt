@@ -2,7 +2,7 @@
 use Rattle.std.specs.Prelude.{Float}
 use Rattle.wind.specs.declared.state.VehicleState.{VehicleState}
 use Rattle.heading.specs.HoverWind as hover
-use Rattle.heading.specs.LegHeading as leg
+use Rattle.heading.specs.Inner.{toward}
 use Rattle.heading.specs.declared.hover_wind.HoverWind.{HoverWind}
 use Rattle.heading.specs.declared.leg_heading.Goal.{Goal}
 use Rattle.heading.specs.declared.leg_heading.Turn.{Turn}
@@ -30,7 +30,7 @@ steer self s wind =
 unfoldable pub turn_for : CopterGuidance → Float → VehicleState → Goal → HoverWind → Turn
 turn_for self dt state goal wind =
     let before = self.memory in
-    leg.toward before.leg_heading dt self.config.guidance.heading before.heading_rad goal (hover.estimate wind) state
+    toward before.leg_heading dt self.config.guidance.heading before.heading_rad goal (hover.estimate wind) state
 
 -- what a plan gives: the wind is updated first
 unfoldable pub flown : CopterGuidance → Float → VehicleState → Plan → Guided

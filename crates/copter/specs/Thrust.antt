@@ -10,7 +10,7 @@ use Rattle.math.specs.declared.SinkGuard.TheVariants.{Raised, Off}
 use Rattle.copter.specs.declared.config.ThrustLimits.{ThrustLimits}
 use Rattle.copter.specs.declared.config.CopterGuidanceConfig.{CopterGuidanceConfig}
 use Rattle.copter.specs.declared.thrust.Thrust.{Thrust}
-use Rattle.copter.specs.declared.thrust.Held.{Held}
+use Rattle.copter.specs.declared.thrust.PilotedThrust.{PilotedThrust}
 
 -- to [0, 1]; flagged where it was outside, which a NaN is not
 unfoldable pub clip_thrust : Float → Thrust
@@ -35,7 +35,7 @@ unfolding guarded_by
 guarded thrust climb limits = guarded_by (guard_sink thrust.value climb limits.sink_limit_mps limits.sink_gain) thrust
 
 -- The raw throttle decides whether it is idle, and a NaN is. An idle throttle passes the thrust through; any other is floored and guarded.
-unfoldable pub hold_piloted : Float → Thrust → Float → Float → ThrustLimits → Held
+unfoldable pub hold_piloted : Float → Thrust → Float → Float → ThrustLimits → PilotedThrust
 hold_piloted throttle thrust climb idle limits =
     let held = guarded (floor_thrust thrust.value limits.min_thrust) climb limits in
     cond (lt idle throttle)
@@ -43,7 +43,7 @@ hold_piloted throttle thrust climb idle limits =
     (record { value = thrust.value; saturated = thrust.saturated; idle = true })
 
 -- an absolute command's thrust is clipped and not boosted
-unfoldable pub hold_absolute : Float → Float → CopterGuidanceConfig → Held
+unfoldable pub hold_absolute : Float → Float → CopterGuidanceConfig → PilotedThrust
 hold_absolute thrust climb config = hold_piloted thrust (clip_thrust thrust) climb config.guidance.idle_throttle config.thrust
 
 -- a stick's throttle is boosted and then clipped

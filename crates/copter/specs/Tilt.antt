@@ -5,14 +5,13 @@ use Rattle.std.specs.Float.Ieee.Scale.{finite}
 use Rattle.floats.specs.Ops.{◌⊕◌, ◌⊖◌, ◌⊗◌, ◌⊘◌}
 use Rattle.floats.specs.SinCos.{sinf, cosf}
 use Rattle.floats.specs.Atan.{atanf}
-use Rattle.math.specs.Math.{zero, cap_magnitude, past, all_finite}
+use Rattle.math.specs.Math.{zero, gravity, cap_magnitude, past, all_finite}
 use Rattle.math.specs.Vectors.{zeros, plus, minus, times, norm}
 use Rattle.math.specs.declared.vectors.Vec2.{Vec2}
 use Rattle.controllers.specs.RateDivider.{due, ran}
 use Rattle.controllers.specs.declared.rate_divider.RateDivider.{RateDivider}
 use Rattle.controllers.specs.declared.rate_divider.Due.{Due}
 use Rattle.controllers.specs.declared.rate_divider.Due.TheVariants.{Step, NotYet}
-use Rattle.altitude.specs.Altitude.{gravity}
 use Rattle.lateral.specs.Lateral.{control}
 use Rattle.lateral.specs.declared.LateralTarget.{LateralTarget}
 use Rattle.lateral.specs.declared.LateralEstimate.{LateralEstimate}

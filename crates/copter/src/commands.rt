@@ -3,7 +3,7 @@ use heading::Angle;
 use math::vectors::Vec2;
 
 // Sticks: the throttle in [0, 1], the others in [-1, 1].
-#[derive(Drop)]
+#[derive(Clone, Copy)]
 pub struct AttitudeCommand {
     pub throttle: f32,
     pub roll: f32,
@@ -12,13 +12,13 @@ pub struct AttitudeCommand {
 }
 
 // The target's own velocity, or none.
-#[derive(Drop)]
+#[derive(Clone, Copy)]
 pub enum TargetVelocity {
     Nothing,
     Mps(Vec2),
 }
 
-#[derive(Drop)]
+#[derive(Clone, Copy)]
 pub struct WaypointCommand {
     pub position_m: Vec2,
     pub velocity_mps: TargetVelocity,
@@ -27,7 +27,7 @@ pub struct WaypointCommand {
     pub heading_rad: Angle,
 }
 
-#[derive(Drop)]
+#[derive(Clone, Copy)]
 pub struct AbsoluteAttitudeCommand {
     pub roll_rad: f32,
     pub pitch_rad: f32,
@@ -35,12 +35,12 @@ pub struct AbsoluteAttitudeCommand {
     pub thrust: f32,
 }
 
-#[derive(Drop)]
+#[derive(Clone, Copy)]
 pub struct LandCommand {
     pub position_m: Vec2,
 }
 
-#[derive(Drop)]
+#[derive(Clone, Copy)]
 pub struct AbsoluteRateCommand {
     pub roll_radps: f32,
     pub pitch_radps: f32,
@@ -49,7 +49,7 @@ pub struct AbsoluteRateCommand {
 }
 
 // What a call is told to fly.
-#[derive(Drop)]
+#[derive(Clone, Copy)]
 pub enum Command {
     Attitude(AttitudeCommand),
     Waypoint(WaypointCommand),
@@ -58,7 +58,7 @@ pub enum Command {
     AbsoluteRate(AbsoluteRateCommand),
 }
 
-#[derive(Drop)]
+#[derive(Clone, Copy)]
 pub struct AttitudeSetpoint {
     pub roll_rad: f32,
     pub pitch_rad: f32,
@@ -66,7 +66,7 @@ pub struct AttitudeSetpoint {
     pub thrust: f32,
 }
 
-#[derive(Drop)]
+#[derive(Clone, Copy)]
 pub struct BodyRateSetpoint {
     pub roll_radps: f32,
     pub pitch_radps: f32,
@@ -74,14 +74,14 @@ pub struct BodyRateSetpoint {
     pub thrust: f32,
 }
 
-#[derive(Drop)]
+#[derive(Clone, Copy)]
 pub enum Setpoint {
     Attitude(AttitudeSetpoint),
     BodyRate(BodyRateSetpoint),
 }
 
 // What a call clipped, and whether the throttle is idle.
-#[derive(Drop)]
+#[derive(Clone, Copy)]
 pub struct Flags {
     pub tilt: bool,
     pub thrust: bool,

@@ -12,7 +12,7 @@ use math::vectors::Vec2;
 use wind::drag::WindConfig;
 
 // Fields 38 to 41: a floor, a sink guard and a ceiling on the tilt boost.
-#[derive(Drop)]
+#[derive(Clone, Copy)]
 pub struct ThrustLimits {
     pub min_thrust: f32,
     pub sink_limit_mps: f32,
@@ -21,7 +21,7 @@ pub struct ThrustLimits {
 }
 
 // Fields 15 to 37, in the order of the source's `validate`.
-#[derive(Drop)]
+#[derive(Clone, Copy)]
 pub struct GuidanceConfig {
     pub navigation_period_s: f32,
     pub max_stick_angles_rad: Vec2,
@@ -39,7 +39,7 @@ pub struct GuidanceConfig {
 }
 
 // Fields 1 to 6, 7 to 14, 15 to 37, 38 to 41 and 42 to 50.
-#[derive(Drop)]
+#[derive(Clone, Copy)]
 pub struct CopterGuidanceConfig {
     pub altitude: AltitudeControllerConfig,
     pub lateral: LateralControllerConfig,
@@ -49,7 +49,7 @@ pub struct CopterGuidanceConfig {
 }
 
 // What a field takes.
-#[derive(Drop)]
+#[derive(Clone, Copy)]
 pub enum Rule {
     Anything,
     // Non-negative and finite.
@@ -202,7 +202,7 @@ fn up_to_pi(value: f32) -> bool
     ensures { result ≡ up_to_pi value }
 {
     if value >= 0.0 {
-        return value <= 3.1415927;
+        return value <= math::PI;
     }
     false
 }

@@ -1,27 +1,27 @@
 // How the altitude target moves: up at once, down along a ramp.
 ghost use Rattle.std.specs.Prelude.{◌≡◌};
-ghost use Rattle.copter.specs.Descent.{lowered, descent_start, ramped, descent_rate, finite_height, toward, descend_toward, landing, land_descent};
+ghost use Rattle.copter.specs.Descent.{lowered, descent_start, ramped_descent, descent_rate, finite_height, toward, descend_toward, landing, land_descent};
 
 use crate::config::CopterGuidanceConfig;
 use crate::memory::AltitudeHold;
 use altitude::AltitudeTarget;
 
 // Where a descent's target moves from, and its speed, negative while it climbs.
-#[derive(Drop)]
+#[derive(Clone, Copy)]
 pub struct Descent {
     pub start_m: f32,
     pub speed_mps: f32,
 }
 
 // None until there is a finite altitude to descend from.
-#[derive(Drop)]
+#[derive(Clone, Copy)]
 pub enum DescentStart {
     Unknown,
     From(Descent),
 }
 
 // The target of a call, and what is remembered of it.
-#[derive(Drop)]
+#[derive(Clone, Copy)]
 pub struct Descended {
     pub target: AltitudeTarget,
     pub hold: AltitudeHold,
@@ -59,8 +59,8 @@ fn descent_start(
 }
 
 // `limit_mps`, or less while the target sheds a climb or speeds up.
-fn ramped(config: CopterGuidanceConfig, dt: f32, limit_mps: f32, speed_mps: f32) -> f32
-    ensures { result ≡ ramped config dt limit_mps speed_mps }
+fn ramped_descent_mps(config: CopterGuidanceConfig, dt: f32, limit_mps: f32, speed_mps: f32) -> f32
+    ensures { result ≡ ramped_descent config dt limit_mps speed_mps }
 {
     if speed_mps < 0.0 {
         return floats::minmax::min(limit_mps, speed_mps + config.guidance.climb_decel_mps2 * dt);
@@ -72,7 +72,7 @@ fn ramped(config: CopterGuidanceConfig, dt: f32, limit_mps: f32, speed_mps: f32)
 }
 
 // The rate toward a waypoint `height_m` below the target.
-fn descent_rate(config: CopterGuidanceConfig, height_m: f32) -> f32
+fn descent_rate_mps(config: CopterGuidanceConfig, height_m: f32) -> f32
     ensures { result ≡ descent_rate config height_m }
 {
     math::limited_closing_speed(
@@ -103,10 +103,10 @@ fn toward(
 ) -> AltitudeTarget
     ensures { result ≡ toward config dt waypoint_m altitude_m from }
 {
-    let rate_mps = ramped(
+    let rate_mps = ramped_descent_mps(
         config,
         dt,
-        descent_rate(config, from.start_m - waypoint_m),
+        descent_rate_mps(config, from.start_m - waypoint_m),
         from.speed_mps,
     );
     let step_m = lowered(
@@ -118,7 +118,10 @@ fn toward(
     if waypoint_m < step_m {
         return AltitudeTarget {
             altitude_m: step_m,
-            velocity_mps: -floats::minmax::min(descent_rate(config, step_m - waypoint_m), rate_mps),
+            velocity_mps: -floats::minmax::min(
+                descent_rate_mps(config, step_m - waypoint_m),
+                rate_mps,
+            ),
         };
     }
     AltitudeTarget {
@@ -176,13 +179,18 @@ pub fn land_descent(
         return Descended {
             target: AltitudeTarget {
                 altitude_m: 0.0 / 0.0,
-                velocity_mps: -ramped(config, dt, config.guidance.land_speed_mps, speed_mps),
+                velocity_mps: -ramped_descent_mps(
+                    config,
+                    dt,
+                    config.guidance.land_speed_mps,
+                    speed_mps,
+                ),
             },
             hold: AltitudeHold::Nothing,
             speed_mps: 0.0,
         };
     };
-    let rate_mps = ramped(config, dt, config.guidance.land_speed_mps, from.speed_mps);
+    let rate_mps = ramped_descent_mps(config, dt, config.guidance.land_speed_mps, from.speed_mps);
     let target_m = lowered(
         from.start_m,
         rate_mps * dt,

@@ -1,6 +1,6 @@
 // The five calls, as `guide` and one by one, the priming and the wind reading.
 ghost use Rattle.std.specs.Prelude.{◌≡◌, Float};
-ghost use Rattle.copter.specs.Guide.{heading_target, followed_heading, command_heading, navigated_thrust, climb, piloted_flags, fly_to, attitude_call, absolute_attitude_call, absolute_rate_call, waypoint_call, land_call, guide_call, new_craft, prime, wind_reading};
+ghost use Rattle.copter.specs.Guide.{heading_target, followed_heading, command_heading, navigated_thrust, altitude_control, piloted_flags, fly_to, attitude_call, absolute_attitude_call, absolute_rate_call, waypoint_call, land_call, guide_call, new_craft, prime, wind_reading};
 ghost use Rattle.copter.specs.Plan.{steered, steer, turn_for, flown};
 
 use crate::commands::{
@@ -10,7 +10,7 @@ use crate::commands::{
 use crate::config::CopterGuidanceConfig;
 use crate::descent::Descended;
 use crate::memory::{CopterGuidance, LateralMemory, Memory, VerticalMemory};
-use crate::thrust::{Held, Thrust};
+use crate::thrust::{PilotedThrust, Thrust};
 use crate::tilt::Course;
 use altitude::{AltitudeControl, AltitudeEstimate, AltitudeTarget};
 use heading::hover_wind::HoverWind;
@@ -19,7 +19,7 @@ use wind::state::VehicleState;
 use wind::window::Filter;
 
 // The craft after a call, its setpoint and its flags.
-#[derive(Drop)]
+#[derive(Clone, Copy)]
 pub struct Guided {
     pub craft: CopterGuidance,
     pub setpoint: Setpoint,
@@ -27,7 +27,7 @@ pub struct Guided {
 }
 
 // What a piloted call answers, and the heading target that it leaves.
-#[derive(Drop)]
+#[derive(Clone, Copy)]
 pub struct Steered {
     pub heading_rad: f32,
     pub setpoint: Setpoint,
@@ -36,7 +36,7 @@ pub struct Steered {
 
 // What a command flies once the wind is updated: a course at an altitude target with the heading
 // turned for a goal, or what the pilot commands.
-#[derive(Drop)]
+#[derive(Clone, Copy)]
 pub enum Plan {
     Navigated(Course, Descended, Goal),
     Piloted(Steered),
@@ -102,7 +102,7 @@ impl CopterGuidance {
         }
     }
 
-    // The wind estimate; none before the first window has closed.
+    // The wind estimate; none until a window has closed since it was last forgotten.
     pub fn wind(self) -> Filter
         ensures { result ≡ wind_reading self }
     {
@@ -172,7 +172,7 @@ impl CopterGuidance {
     {
         match command {
             Command::Attitude(c) => Plan::Piloted(self.attitude_setpoint(dt, state, c)),
-            Command::Waypoint(c) => self.waypoint_leg(dt, state, c),
+            Command::Waypoint(c) => self.navigate(dt, state, c),
             Command::AbsoluteAttitude(c) => Plan::Piloted(self.absolute_attitude_setpoint(
                 state, c,
             )),
@@ -188,12 +188,14 @@ impl CopterGuidance {
         let config = self.config;
         let kept_rad = self.memory.heading_rad;
         let limits = config.thrust;
+        let throttle = command.throttle;
         let turned = kept_rad
             + math::saturate_unit(command.yaw) * config.guidance.stick_yaw_rate_radps * dt;
         let heading_rad = heading_target(kept_rad, turned, state.heading_rad);
+        let boosted = crate::thrust::boosted(throttle, state.attitude, limits.max_boost_thrust);
         let held = crate::thrust::hold_piloted(
-            command.throttle,
-            crate::thrust::boosted(command.throttle, state.attitude, limits.max_boost_thrust),
+            throttle,
+            boosted,
             state.velocity_mps.z,
             config.guidance.idle_throttle,
             limits,
@@ -257,7 +259,7 @@ impl CopterGuidance {
     }
 
     // Toward a waypoint.
-    fn waypoint_leg(self, dt: f32, state: VehicleState, command: WaypointCommand) -> Plan
+    fn navigate(self, dt: f32, state: VehicleState, command: WaypointCommand) -> Plan
         ensures { flown self dt state result ≡ waypoint_call self dt state command }
     {
         let config = self.config;
@@ -284,7 +286,7 @@ impl CopterGuidance {
         Plan::Navigated(course, descended, Goal::Waypoint(position_m, commanded))
     }
 
-    // Down to a position, descending all the time.
+    // Down to a position, with an altitude target that keeps descending.
     fn land_leg(self, dt: f32, state: VehicleState, command: LandCommand) -> Plan
         ensures { flown self dt state result ≡ land_call self dt state command }
     {
@@ -326,7 +328,8 @@ impl CopterGuidance {
         )
     }
 
-    // A piloted call, with the wind updated: all of navigation is reset but the stored tilt.
+    // A piloted call, with the wind updated: all of navigation is reset but the stored tilt and whether it
+    // was capped.
     fn steer(self, steered: Steered, wind: HoverWind) -> Guided
         ensures { result ≡ steer self steered wind }
     {
@@ -371,7 +374,7 @@ impl CopterGuidance {
         let lateral = tilted.memory;
         let leg_heading = turn.memory;
         let vertical_before = before.vertical;
-        let control = climb(vertical_before, config, dt, descended.target, state);
+        let control = altitude_control(vertical_before, config, dt, descended.target, state);
         let thrust = navigated_thrust(control.thrust, config.thrust.min_thrust);
         let controller = control.controller;
         let target = descended.hold;
@@ -426,14 +429,14 @@ fn navigated_thrust(linear_thrust: f32, min_thrust: f32) -> Thrust
 }
 
 // A run of the altitude loop.
-fn climb(
+fn altitude_control(
     vertical: VerticalMemory,
     config: CopterGuidanceConfig,
     dt: f32,
     target: AltitudeTarget,
     state: VehicleState,
 ) -> AltitudeControl
-    ensures { result ≡ climb vertical config dt target state }
+    ensures { result ≡ altitude_control vertical config dt target state }
 {
     let controller = vertical.controller;
     let attitude = state.attitude;
@@ -450,7 +453,7 @@ fn climb(
 }
 
 // A piloted call never saturates the tilt.
-fn piloted_flags(held: Held) -> Flags
+fn piloted_flags(held: PilotedThrust) -> Flags
     ensures { result ≡ piloted_flags held }
 {
     Flags {

@@ -1,5 +1,7 @@
 // Copter guidance, from guidance/copter.rs: a command and a state to a setpoint. The craft goes in by
 // value and comes back by value.
+#![tactic(auto)]
+
 pub mod commands;
 pub mod config;
 pub mod descent;

@@ -1,6 +1,6 @@
 // What guidance remembers from call to call.
 ghost use Rattle.std.specs.Prelude.{◌≡◌};
-ghost use Rattle.copter.specs.Memory.{level, upright, fresh, idled};
+ghost use Rattle.copter.specs.Memory.{fresh_vertical, fresh_lateral, fresh, reset_lateral};
 
 use crate::config::CopterGuidanceConfig;
 use altitude::AltitudeController;
@@ -11,14 +11,14 @@ use lateral::LateralController;
 use math::vectors::Vec2;
 
 // The altitude target of document 01: none, or a finite height in metres.
-#[derive(Drop)]
+#[derive(Clone, Copy)]
 pub enum AltitudeHold {
     Nothing,
     Height(f32),
 }
 
 // The vertical loop: its controller, the target and how fast the target last descended.
-#[derive(Drop)]
+#[derive(Clone, Copy)]
 pub struct VerticalMemory {
     pub controller: AltitudeController,
     pub target: AltitudeHold,
@@ -27,7 +27,7 @@ pub struct VerticalMemory {
 
 // The lateral loop: its controller, its pacing, the stored tilt with whether it was capped, and the
 // acceleration requested before the cap.
-#[derive(Drop)]
+#[derive(Clone, Copy)]
 pub struct LateralMemory {
     pub controller: LateralController,
     pub rate: RateDivider,
@@ -36,7 +36,7 @@ pub struct LateralMemory {
     pub requested_accel_mps2: Vec2,
 }
 
-#[derive(Drop)]
+#[derive(Clone, Copy)]
 pub struct Memory {
     pub vertical: VerticalMemory,
     pub lateral: LateralMemory,
@@ -46,7 +46,7 @@ pub struct Memory {
 }
 
 // A craft: its configuration and its memory.
-#[derive(Drop)]
+#[derive(Clone, Copy)]
 pub struct CopterGuidance {
     pub config: CopterGuidanceConfig,
     pub memory: Memory,
@@ -54,7 +54,7 @@ pub struct CopterGuidance {
 
 impl VerticalMemory {
     pub fn new() -> VerticalMemory
-        ensures { result ≡ level }
+        ensures { result ≡ fresh_vertical }
     {
         VerticalMemory {
             controller: AltitudeController::new(),
@@ -66,7 +66,7 @@ impl VerticalMemory {
 
 impl LateralMemory {
     pub fn new() -> LateralMemory
-        ensures { result ≡ upright }
+        ensures { result ≡ fresh_lateral }
     {
         LateralMemory {
             controller: LateralController::new(),
@@ -79,7 +79,7 @@ impl LateralMemory {
 
     // All but the stored tilt and whether it was capped.
     pub fn reset(self) -> LateralMemory
-        ensures { result ≡ idled self }
+        ensures { result ≡ reset_lateral self }
     {
         let tilt_rad = self.tilt_rad;
         LateralMemory {

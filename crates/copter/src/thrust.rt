@@ -7,15 +7,15 @@ use math::SinkGuard;
 use math::vectors::Quaternion;
 
 // A thrust, and whether something changed it.
-#[derive(Drop)]
+#[derive(Clone, Copy)]
 pub struct Thrust {
     pub value: f32,
     pub saturated: bool,
 }
 
 // A piloted thrust, whether something changed it, and whether the throttle is idle.
-#[derive(Drop)]
-pub struct Held {
+#[derive(Clone, Copy)]
+pub struct PilotedThrust {
     pub value: f32,
     pub saturated: bool,
     pub idle: bool,
@@ -99,19 +99,19 @@ pub fn hold_piloted(
     climb_mps: f32,
     idle_throttle: f32,
     limits: ThrustLimits,
-) -> Held
+) -> PilotedThrust
     ensures { result ≡ hold_piloted throttle thrust climb_mps idle_throttle limits }
 {
     if throttle > idle_throttle {
         let floored = floor_thrust(thrust.value, limits.min_thrust);
         let held = guarded(floored, climb_mps, limits);
-        return Held {
+        return PilotedThrust {
             value: held.value,
             saturated: either(thrust.saturated, held.saturated),
             idle: false,
         };
     }
-    Held {
+    PilotedThrust {
         value: thrust.value,
         saturated: thrust.saturated,
         idle: true,
@@ -128,7 +128,7 @@ fn either(a: bool, b: bool) -> bool
 }
 
 // The thrust of an absolute command: clipped, not boosted.
-pub fn hold_absolute(thrust: f32, climb_mps: f32, config: CopterGuidanceConfig) -> Held
+pub fn hold_absolute(thrust: f32, climb_mps: f32, config: CopterGuidanceConfig) -> PilotedThrust
     ensures { result ≡ hold_absolute thrust climb_mps config }
 {
     let limits = config.thrust;

@@ -13,7 +13,7 @@ use wind::state::VehicleState;
 use wind::window::Filter;
 
 // Where to fly: a position, the target's own velocity and the largest speed.
-#[derive(Drop)]
+#[derive(Clone, Copy)]
 pub struct Course {
     pub position_m: Vec2,
     pub velocity_mps: TargetVelocity,
@@ -21,7 +21,7 @@ pub struct Course {
 }
 
 // The lateral memory after a call, and the tilt that it asks for, roll and pitch.
-#[derive(Drop)]
+#[derive(Clone, Copy)]
 pub struct Tilted {
     pub memory: LateralMemory,
     pub tilt_rad: Vec2,
@@ -38,7 +38,7 @@ pub fn tilt_for_acceleration(accel_mps2: Vec2, heading_rad: f32) -> Vec2
             return Vec2::zeros();
         }
         if floats::compare::is_finite(heading_rad) {
-            let tilt_rad = floats::atan::atanf(norm / 9.80665);
+            let tilt_rad = floats::atan::atanf(norm / math::GRAVITY);
             let sin = floats::sin_cos::sinf(heading_rad);
             let cos = floats::sin_cos::cosf(heading_rad);
             let ahead = accel_mps2.x * cos + accel_mps2.y * sin;

@@ -1,4 +1,6 @@
 // A whole flight under a C name, for the driver of bench/, which is not in Rattle.
+#![tactic(auto)]
+
 ghost use Rattle.std.specs.Prelude.{◌≡◌, true};
 ghost use Rattle.records.specs.Craft.{unconfigured};
 ghost use Rattle.records.specs.Flight.{fly};

@@ -16,6 +16,7 @@ pub mod Sizes
 pub mod Nearest
 pub mod Fields
 pub mod Pattern
+pub mod Digits
 -- The leaves' own definitions.
 pub mod MinMax
 pub mod Narrow

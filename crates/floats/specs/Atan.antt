@@ -1,4 +1,5 @@
--- atanf and atan2f, from FreeBSD's msun: s_atanf.c and e_atan2f.c, in `f32`, each operation rounded once. Assumes nothing.
+-- atanf and atan2f, from FreeBSD's msun: s_atanf.c and e_atan2f.c, in `f32`, each operation rounded once. Where the Rust's libm parts from msun,
+-- in `atanf` from 2 ^ 26 on and in `far_above`, it is followed: atan2f (1.5 * 2 ^ 26) -1 is 3FC90FDB. Assumes nothing.
 use Rattle.std.specs.Prelude.{◌+◌, Bool, cond, ◌&&◌, ◌||◌, is_nan, nat_lt, to_bits, Float}
 use Rattle.std.specs.Float.{nan, binary32}
 use Rattle.std.specs.Float.Ieee.{neg, lt, le, eq}
@@ -49,7 +50,7 @@ atanf_large x =
 abbrev pub with_sign : Bool → Float → Float
 with_sign s x = cond s (neg x) x
 
--- Below 2 ^ -12 in size it is x; from 2 ^ 26 on π/2, as the source has it.
+-- Below 2 ^ -12 in size it is x; from 2 ^ 26 on it has the size of the `f32` below π/2, 3FC90FDA, as in libm.
 unfoldable pub atanf : Float → Float
 atanf x =
     cond (lt (abs x) (f32 0x3EE0_0000)) (cond (lt (abs x) (f32 0x3980_0000)) x (x ⊖ atanf_rest x))
@@ -73,7 +74,7 @@ pi/4 = f32 0x3F49_0FDB
 abbrev pub 3pi/4 : Float
 3pi/4 = f32 0x4016_CBE4
 
--- |y| is more than 2 ^ 26 times |x|, as the bit patterns tell
+-- |y| is more than 2 ^ 26 times |x|, as the bit patterns tell: libm's test, and not msun's
 abbrev pub far_above : Float → Float → Bool
 far_above y x = nat_lt (to_bits binary32 (abs x) + 0x0D00_0000) (to_bits binary32 (abs y))
 

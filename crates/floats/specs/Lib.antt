@@ -5,5 +5,6 @@ pub mod Compare
 pub mod MinMax
 pub mod Narrow
 pub mod Sqrt
+pub mod Root
 pub mod SinCos
 pub mod Atan

@@ -16,13 +16,20 @@ whole_root n = root_digits (size n) n 0
 abbrev pub scale : Format → ℕ
 scale f = 2 ^ (low f + prec f)
 
--- √(num / den), rounded once. r is its whole part in units of 1 / scale. One digit more, which is 1 where something is left over, stands for all
--- further digits: it tells on which side of a tie the root lies.
+-- num in units of 1 / scale², of which √(num / den) is the root in units of 1 / scale
+abbrev pub square : Format → ℕ → ℕ
+square f num = num * (scale f * scale f)
+
+-- The whole part of √(num / den) in units of 1 / scale.
+abbrev pub whole_part : Format → ℕ → ℕ → ℕ
+whole_part f num den = whole_root (square f num / den)
+
+-- √(num / den), rounded once. One digit more than the whole part, which is 1 where something is left over, stands for all further digits: it tells on
+-- which side of a tie the root lies.
 unfoldable pub root_of : Format → ℕ → ℕ → Float
 root_of f num den =
-    let square = num * (scale f * scale f) in
-    let r = whole_root (square / den) in
-    round f false (2 * r + cond (r * r * den == square) 0 1) (2 * scale f)
+    let r = whole_part f num den in
+    round f false (2 * r + cond (r * r * den == square f num) 0 1) (2 * scale f)
 
 -- A zero keeps its sign. A number below zero has no root.
 unfoldable pub sqrt : Format → Float → Float

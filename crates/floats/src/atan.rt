@@ -1,10 +1,12 @@
-// atanf and atan2f, from FreeBSD's msun (s_atanf.c and e_atan2f.c), in `f32`.
+// atanf and atan2f, from FreeBSD's msun (s_atanf.c and e_atan2f.c), in `f32`. Where the Rust's libm parts
+// from msun, at sizes from 2^26 on and in `far_above`, it is followed.
 //
-// The ranges are told by the pattern of a size, as in the source.
+// The ranges are told by the pattern of a size, as in both.
 ghost use Rattle.std.specs.Prelude.{◌≡◌, if◌then◌else◌};
 ghost use Rattle.floats.specs.Ops.{◌⊖◌};
 ghost use Rattle.floats.specs.Atan.{pi, pi_low, atanf_rest, atanf_from, atanf_large, atanf, far_above, atan2f_infinite, atan2f_finite, atan2f_nonzero, atan2f};
 
+use crate::bits::INFINITE;
 use crate::{bits, compare};
 
 // π.
@@ -26,16 +28,13 @@ const THREE_PI_4: f32 = 2.3561945;
 const TINY: u32 = 0x3980_0000;
 
 // The pattern of 7/16.
-const SMALL: u32 = 0x3ee0_0000;
+const SMALL: u32 = 0x3EE0_0000;
 
 // The pattern of 2^26.
-const HUGE: u32 = 0x4c80_0000;
-
-// The pattern of the infinity.
-const INFINITE: u32 = 0x7f80_0000;
+const HUGE: u32 = 0x4C80_0000;
 
 // By how much the patterns of 2^26 * x and of x differ.
-const FAR: u32 = 0x0d00_0000;
+const FAR: u32 = 0x0D00_0000;
 
 // x - atan x for x below 7/16 in size.
 fn atanf_rest(x: f32) -> f32
@@ -71,7 +70,8 @@ fn atanf_large(x: f32) -> f32
     atanf_from(1.5707963, 0.000000075497894, -1.0 / x)
 }
 
-// The arctangent of x, in radians, from -π/2 to π/2. A NaN gives a NaN, and a zero itself.
+// The arctangent of x, in radians, from -π/2 to π/2. From 2^26 on in size it has that of the `f32` below π/2,
+// as in libm. A NaN gives a NaN, and a zero itself.
 pub fn atanf(x: f32) -> f32
     ensures { result ≡ atanf x }
 {
@@ -91,7 +91,7 @@ pub fn atanf(x: f32) -> f32
     compare::with_sign(x < 0.0, atanf_large(compare::abs(x)))
 }
 
-// Whether y is more than 2^26 times x in size, as the patterns tell.
+// Whether y is more than 2^26 times x in size, as the patterns tell: libm's test, and not msun's.
 fn far_above(y: f32, x: f32) -> bool
     ensures { result ≡ far_above y x }
 {

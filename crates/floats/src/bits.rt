@@ -4,11 +4,20 @@ ghost use Rattle.std.specs.Float.{binary32};
 ghost use Rattle.floats.specs.Bits.{le_word, le_bytes};
 ghost use Rattle.floats.specs.Compare.{abs};
 
+// The weight of the sign's bit in a pattern of `f32`, 2^31.
+pub const SIGN: u32 = 0x8000_0000;
+
+// The pattern of the infinity.
+pub const INFINITE: u32 = 0x7F80_0000;
+
+// The pattern that a NaN gets.
+const NAN: u32 = 0x7FC0_0000;
+
 // The float that a pattern stands for. Every NaN pattern gives a NaN.
 pub fn from_bits(bits: u32) -> f32
     ensures { result ≡ from_bits binary32 bits }
 {
-    if 2139095040 < bits % 2147483648 {
+    if INFINITE < bits % SIGN {
         return 0.0 / 0.0;
     }
     f32::from_bits(bits)
@@ -19,19 +28,19 @@ pub fn to_bits(x: f32) -> u32
     ensures { result ≡ to_bits binary32 x }
 {
     if x != x {
-        return 2143289344;
+        return NAN;
     }
     f32::to_bits(x)
 }
 
-// The pattern of a float's size, which is the float's without the highest bit.
+// The pattern of a float's size, which is the float's without the highest bit. A NaN gives 7FC00000.
 pub fn size_bits(x: f32) -> u32
     ensures { result ≡ to_bits binary32 (abs x) }
 {
     if x != x {
-        return 2143289344;
+        return NAN;
     }
-    f32::to_bits(x) % 2147483648
+    f32::to_bits(x) % SIGN
 }
 
 // The word of four bytes, the low byte first.

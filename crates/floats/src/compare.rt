@@ -4,8 +4,7 @@ ghost use Rattle.std.specs.Float.Ieee.{neg};
 ghost use Rattle.std.specs.Float.Ieee.Scale.{finite};
 ghost use Rattle.floats.specs.Compare.{abs, is_negative, signum};
 
-// The weight of the sign's bit in a pattern, 2^31.
-const SIGN: u32 = 2147483648;
+use crate::bits::SIGN;
 
 pub fn is_nan(x: f32) -> bool
     ensures { result ≡ is_nan x }

@@ -1,12 +1,15 @@
 // The float leaves: what the layers above need of `f32` beyond its operators.
 //
-// Each function is total, and each contract is an equality with a definition of specs/, which is made
-// of `lib.Ieee`'s operations. A NaN has no sign and no payload there, so no contract says which bits
-// a NaN has.
+// Each exported function is total, and its contract is an equality, with a term made of the definitions of
+// specs/ and of `lib.Ieee`'s. A NaN has no sign and no payload there, so no contract says which bits a NaN
+// has.
+#![tactic(auto)]
+
 pub mod atan;
 pub mod bits;
 pub mod compare;
 pub mod minmax;
 pub mod narrow;
+pub mod rem;
 pub mod sin_cos;
 pub mod sqrt;

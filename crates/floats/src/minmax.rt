@@ -29,7 +29,7 @@ pub fn max(x: f32, y: f32) -> f32
 }
 
 // x brought to `low` where it is below it, and then to `high` where it is above that. A NaN stays
-// one, and so does the sign of a zero that is in bounds.
+// one, and a zero that is in bounds keeps its sign.
 pub fn clamp(x: f32, low: f32, high: f32) -> f32
     ensures { result ≡ clamp x low high }
 {

@@ -4,34 +4,34 @@ ghost use Rattle.std.specs.Float.{binary32};
 ghost use Rattle.floats.specs.Narrow.{convert};
 
 // The weight of the sign's bit in a pattern of `f64`, 2^63.
-const SIGN64: u64 = 9223372036854775808;
+const SIGN64: u64 = 0x8000_0000_0000_0000;
 
 // The same in a pattern of `f32`, 2^31.
-const SIGN32: u64 = 2147483648;
+const SIGN32: u64 = 0x8000_0000;
 
 // The pattern, as an `f64`, of 2^-126, the smallest normal `f32`.
-const NORMAL: u64 = 897 * 4503599627370496;
+const NORMAL: u64 = 0x3810_0000_0000_0000;
 
 // The pattern, as an `f64`, of 2^128, which is too large for an `f32`.
-const TOO_LARGE: u64 = 1151 * 4503599627370496;
+const TOO_LARGE: u64 = 0x47F0_0000_0000_0000;
 
 // 2^-97: at this size the last digit of an `f64` is worth 2^-149, the smallest `f32`.
 const ALIGN: f64 = 6.310887241768095e-30;
 
 // Its pattern.
-const ALIGN_BITS: u64 = 926 * 4503599627370496;
+const ALIGN_BITS: u64 = 0x39E0_0000_0000_0000;
 
-// By how much the exponent's field of an `f64` is larger, at its weight there.
-const REBIAS: u64 = 896 * 4503599627370496;
+// By how much the exponent's field of an `f64` is larger, 896, at its weight there, 2^52.
+const REBIAS: u64 = 0x3800_0000_0000_0000;
 
 // What the last digit of an `f32` is worth in the digits of an `f64`, 2^29.
-const STEP: u64 = 536870912;
+const STEP: u64 = 0x2000_0000;
 
 // One less than half of that.
-const BELOW_HALF: u64 = 268435455;
+const BELOW_HALF: u64 = 0x0FFF_FFFF;
 
-// The pattern of the infinity, 7F800000.
-const INFINITE: u64 = 2139095040;
+// The pattern of the infinity as an `f32`.
+const INFINITE: u64 = 0x7F80_0000;
 
 // In the normal range the pattern is rounded as a number: the sum reaches the next step where what is
 // dropped is above half of one, or is half of one and the kept digits are odd. A carry out of the

@@ -37,20 +37,20 @@ const PIO2_1T: f64 = 0.000000015893254773528196;
 // 1.5 * 2^28: at this size the last digit of an `f64` is worth 2^-24, as that of an `f32` from 1/2 to 1.
 const ALIGN: f64 = 402653184.0;
 
-// The pattern of the largest `f32` below π/4.
-const UPTO_PI_4: u32 = 0x3f49_0fda;
+// The pattern of the largest `f32` below π/4, 0.7853981.
+const UPTO_PI_4: u32 = 0x3F49_0FDA;
 
-// The pattern of the largest `f32` below 3π/4.
-const UPTO_3PI_4: u32 = 0x4016_cbe3;
+// The pattern of the largest `f32` below 3π/4, 2.3561943.
+const UPTO_3PI_4: u32 = 0x4016_CBE3;
 
-// The pattern of the largest `f32` below 5π/4.
-const UPTO_5PI_4: u32 = 0x407b_53d1;
+// The pattern of the largest `f32` below 5π/4, 3.9269907.
+const UPTO_5PI_4: u32 = 0x407B_53D1;
 
-// The pattern of the largest `f32` below 7π/4.
-const UPTO_7PI_4: u32 = 0x40af_eddf;
+// The pattern of the largest `f32` below 7π/4, 5.497787.
+const UPTO_7PI_4: u32 = 0x40AF_EDDF;
 
-// The pattern of the largest `f32` below 9π/4.
-const UPTO_9PI_4: u32 = 0x40e2_31d5;
+// The pattern of the largest `f32` below 9π/4, 7.068583.
+const UPTO_9PI_4: u32 = 0x40E2_31D5;
 
 // The pattern of 2^-12.
 const TINY: u32 = 0x3980_0000;
@@ -100,7 +100,8 @@ fn quadrant(x: f64) -> u64
     f64::to_bits(turns) % 4
 }
 
-// x without these quarter turns.
+// x without these quarter turns. Past 2^28 π/2 in size the source goes on to another method, and this one
+// is only total.
 fn rem_pio2f(x: f64) -> f64
     ensures { result ≡ rem_pio2f x }
 {
@@ -155,7 +156,7 @@ fn by_quadrant(n: u64, y: f64) -> f32
     -k_cosf(y)
 }
 
-// The sine of any x.
+// The sine of x of any size, by its quarter turns.
 fn sinf_reduced(x: f32) -> f32
     ensures { result ≡ sinf_reduced x }
 {
@@ -163,7 +164,7 @@ fn sinf_reduced(x: f32) -> f32
     by_quadrant(quadrant(wide), rem_pio2f(wide))
 }
 
-// The sine of x radians. A NaN and an infinity give a NaN, and a zero itself.
+// The sine of x radians, up to 2^28 π/2 in size. A NaN and an infinity give a NaN, and a zero itself.
 pub fn sinf(x: f32) -> f32
     ensures { result ≡ sinf x }
 {
@@ -206,7 +207,7 @@ fn cosf_far(x: f32) -> f32
     k_sinf(std::num::f32_to_f64_with_nan(compare::abs(x)) - PIO2_TIMES_3)
 }
 
-// The cosine of any x: the sine a quarter turn on.
+// The cosine of x of any size: the sine a quarter turn on.
 fn cosf_reduced(x: f32) -> f32
     ensures { result ≡ cosf_reduced x }
 {
@@ -214,7 +215,7 @@ fn cosf_reduced(x: f32) -> f32
     by_quadrant((quadrant(wide) + 1) % 4, rem_pio2f(wide))
 }
 
-// The cosine of x radians. A NaN and an infinity give a NaN.
+// The cosine of x radians, up to 2^28 π/2 in size. A NaN and an infinity give a NaN.
 pub fn cosf(x: f32) -> f32
     ensures { result ≡ cosf x }
 {

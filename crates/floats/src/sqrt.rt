@@ -82,8 +82,8 @@ fn near(z: f64, bits: u32) -> f64 {
 
 // Whether `pattern` is found to be that of the root of x, a normal number above zero.
 fn is_root(x: f32, pattern: u64) -> bool
-    requires t { T (positive x) }
-    requires t_2 { T (le (from_bits binary32 8388608) x) }
+    requires above_zero { T (positive x) }
+    requires normal { T (le (from_bits binary32 8388608) x) }
     ensures { result ≡ true → pattern ≡ to_bits binary32 (sqrt binary32 x) }
 {
     let bits = f32::to_bits(x);

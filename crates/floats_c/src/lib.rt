@@ -1,7 +1,8 @@
 // The float leaves under C names, for the drivers of tests/ and bench/, which are not in Rattle.
-ghost use Rattle.std.specs.Prelude.{◌≡◌};
+#![tactic(auto)]
+
+ghost use Rattle.std.specs.Prelude.{◌≡◌, from_bits, to_bits};
 ghost use Rattle.std.specs.Float.{binary32};
-ghost use Rattle.std.specs.Float.Ieee.{of_bits, to_bits};
 ghost use Rattle.floats.specs.Compare.{abs, signum};
 ghost use Rattle.floats.specs.MinMax.{min, max, clamp};
 ghost use Rattle.floats.specs.Narrow.{convert};
@@ -11,7 +12,7 @@ ghost use Rattle.floats.specs.Atan.{atanf, atan2f};
 
 #[unsafe(no_mangle)]
 pub extern "C" fn tarragonhoe_bits(bits: u32) -> u32
-    ensures { result ≡ to_bits binary32 (of_bits binary32 bits) }
+    ensures { result ≡ to_bits binary32 (from_bits binary32 bits) }
 {
     floats::bits::to_bits(floats::bits::from_bits(bits))
 }

@@ -5,5 +5,4 @@ pub mod WindHeading
 pub mod Leg
 pub mod Yield
 pub mod Side
-pub mod Turn
 pub mod Toward

@@ -20,7 +20,7 @@ latched altitude = cond (finite altitude) (Metres altitude) Nothing
 -- more than a height above the ground; with none remembered, never
 unfoldable pub above : GroundAltitude → Float → Float → Bool
 above Nothing height altitude = false
-above (Metres ground) height altitude = lt (ground ⊕ height) altitude
+above (Metres ground_m) height altitude = lt (ground_m ⊕ height) altitude
 
 -- ---- wind memory: filter, window and remembered ground
 

@@ -20,11 +20,8 @@ use Rattle.heading.specs.declared.leg_heading.Leg.{Leg}
 use Rattle.heading.specs.declared.leg_heading.LegMemory.{LegMemory}
 use Rattle.heading.specs.declared.leg_heading.LegMemory.TheVariants as legs
 use Rattle.heading.specs.declared.leg_heading.LegHeading.{LegHeading}
-use Rattle.heading.specs.declared.leg_heading.Goal.{Goal}
-use Rattle.heading.specs.declared.leg_heading.Goal.TheVariants.{Waypoint, Land}
 use Rattle.heading.specs.declared.leg_heading.Turn.{Turn}
 use Rattle.heading.specs.declared.leg_heading.Bearing.{Bearing}
-use Rattle.heading.specs.declared.leg_heading.Sighted.{Sighted}
 use Rattle.heading.specs.declared.leg_heading.Yielded.{Yielded}
 use Rattle.heading.specs.WindHeading as wind
 
@@ -77,7 +74,7 @@ unfoldable pub bearing : LegHeading → HeadingConfig → Vec2 → Vec2 → Bear
 unfolding bearing_of
 bearing self config position here = bearing_of self.leg self config position here
 
--- the leg was short, or the craft is within the least leg of the waypoint
+-- the leg has no direction, or the craft is within the least leg of the waypoint
 unfoldable pub on_station : Angle → HeadingConfig → Vec2 → Bool
 on_station Nothing config to = true
 on_station (Rad bearing) config to = le (norm to) config.waypoint_yaw_min_leg_m
@@ -128,8 +125,8 @@ along_leg self dt config target bearing state =
 
 -- the wind's heading, which is asked for on station only
 unfoldable pub station_turn : Bool → WindHeading → HeadingConfig → Filter → Float → WindTurn
-station_turn holds memory config estimate heading =
-    cond holds (wind.target memory config estimate heading) (record { wind = memory; target_rad = Nothing })
+station_turn on memory config estimate heading =
+    cond on (wind.target memory config estimate heading) (record { wind = memory; target_rad = Nothing })
 
 -- where the wind gives a heading it is turned to, else the leg's
 unfoldable pub wind_or_leg : Angle → LegHeading → Float → HeadingConfig → Float → Angle → VehicleState → Turn
@@ -179,26 +176,6 @@ land_target self dt config heading estimate state =
     let kept = cleared self in
     let turn = wind.target kept.wind config estimate state.heading_rad in
     held_or_turned turn.target_rad (with_wind kept turn.wind) dt config heading
-
--- ---- a call with its goal
-
--- the heading to turn to, for what a call flies to
-unfoldable pub toward : LegHeading → Float → HeadingConfig → Float → Goal → Filter → VehicleState → Turn
-toward self dt config heading (Waypoint position commanded) estimate state = target self dt config heading position commanded estimate state
-toward self dt config heading Land estimate state = land_target self dt config heading estimate state
-
--- a land call has no commanded heading
-unfoldable pub commanded_angle : Goal → Angle
-commanded_angle (Waypoint position commanded) = finite_angle commanded
-commanded_angle Land = Nothing
-
--- what a call has in sight before the wind turns the heading; a land call holds its position
-unfoldable pub sighted : LegHeading → HeadingConfig → Goal → VehicleState → Sighted
-sighted self config (Waypoint position commanded) state =
-    let leg = bearing self config position (here_of state) in
-    let holds = on_station leg.bearing_rad config (minus position (here_of state)) in
-    record { memory = leg.memory; bearing_rad = leg.bearing_rad; holds = holds; lands = false }
-sighted self config Land state = record { memory = cleared self; bearing_rad = Nothing; holds = true; lands = true }
 
 -- ---- what is said of it
 

@@ -3,3 +3,5 @@ pub mod Equality
 pub mod HoverWind
 pub mod WindHeading
 pub mod LegHeading
+-- How the port divides a call.
+pub mod Inner

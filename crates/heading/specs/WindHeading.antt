@@ -35,7 +35,7 @@ weighed_already (filters.Estimate last) present = same_estimate last present
 
 -- ---- the wingtip's heading
 
--- the side once picked, or the one nearer the heading
+-- the side once picked, else the one nearer the heading, or 1 where that is a NaN
 unfoldable pub picked_side : Side → Float → Float → Float
 picked_side Unpicked heading toward = cond (lt (wrap_angle (heading ⊖ toward)) zero) (neg one) one
 picked_side (Picked s) heading toward = s
@@ -59,7 +59,7 @@ wingtip side config present heading =
 
 -- ---- the target
 
--- it moves where the wingtip's heading is off it by more than the deadband
+-- it moves where there was none, or where the wingtip's heading is off it by more than the deadband
 unfoldable pub moved : Angle → Angle → Float → Angle
 moved target Nothing deadband = target
 moved Nothing (Rad to) deadband = Rad to

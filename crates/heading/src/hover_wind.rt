@@ -7,15 +7,16 @@ use wind::drag::WindConfig;
 use wind::state::VehicleState;
 use wind::window::{Filter, WindEstimator};
 
-// The altitude of the ground, in metres; none until a priming with a finite one.
-#[derive(Drop)]
+// The altitude of the ground, in metres, as the last priming on the ground had it: none before the
+// first one, and where that altitude was not finite.
+#[derive(Clone, Copy)]
 pub enum GroundAltitude {
     Nothing,
     Metres(f32),
 }
 
 // Wind memory: what an update and a priming carry from record to record.
-#[derive(Drop)]
+#[derive(Clone, Copy)]
 pub struct HoverWind {
     pub estimator: WindEstimator,
     pub ground_altitude_m: GroundAltitude,
@@ -52,7 +53,8 @@ impl HoverWind {
         self
     }
 
-    // On the ground, remembers its altitude and forgets the wind; in the air, keeps both.
+    // On the ground, which is where the craft is not airborne, remembers the altitude and forgets the
+    // wind; in the air, keeps both.
     pub fn prime(self, airborne_height_m: f32, state: VehicleState) -> HoverWind
         ensures { result ≡ prime self airborne_height_m state }
     {
@@ -73,7 +75,8 @@ impl HoverWind {
         estimator.estimate()
     }
 
-    // Whether the craft is more than `airborne_height_m` above the ground.
+    // Whether the craft is more than `airborne_height_m` above the ground: never where none is
+    // remembered, or with a NaN.
     fn airborne(self, airborne_height_m: f32, state: VehicleState) -> bool
         ensures { result ≡ airborne self airborne_height_m state }
     {

@@ -1,6 +1,9 @@
-// The heading along a waypoint leg, from leg_heading.rs.
+// The heading target of waypoint and land flight, from leg_heading.rs: turned to a heading that is
+// commanded, along the leg, or with a wingtip into the wind on station, and given up to the craft's own
+// heading once it is stuck off the target. A turn goes the shorter way round, and is not yet wrapped.
 ghost use Rattle.std.specs.Prelude.{◌≡◌};
-ghost use Rattle.heading.specs.LegHeading.{fresh, cleared, with_wind, on_leg, leg_bearing, new_leg, bearing, on_station, station_turn, stuck, stuck_for, counted, yielded, turned_toward, commanded_turn, along_leg, finite_angle, target, land_target, toward, commanded_angle, sighted};
+ghost use Rattle.heading.specs.LegHeading.{fresh, cleared, with_wind, on_leg, leg_bearing, new_leg, bearing, on_station, station_turn, stuck, stuck_for, counted, yielded, turned_toward, commanded_turn, along_leg, finite_angle, target, land_target};
+ghost use Rattle.heading.specs.Inner.{toward, commanded_angle, approach};
 
 use crate::equality::same_vector;
 use crate::wind_heading::{WindHeading, WindTurn};
@@ -9,23 +12,25 @@ use math::vectors::Vec2;
 use wind::state::VehicleState;
 use wind::window::Filter;
 
-// A leg: the waypoint's position, and the direction to it from where the leg began, where it was long
-// enough.
-#[derive(Drop)]
+// A leg: the waypoint's position, and the direction to it from where the leg began; none where it was
+// no longer than the least leg then, or its length not a number.
+#[derive(Clone, Copy)]
 pub struct Leg {
     pub to_m: Vec2,
     pub bearing_rad: Angle,
 }
 
-// The leg flown; none before the first waypoint call and after one whose own position is not finite.
-#[derive(Drop)]
+// The leg being flown: none outside waypoint flight, while a finite heading is commanded, and from a
+// new position on until the craft's own position is finite.
+#[derive(Clone, Copy)]
 pub enum LegMemory {
     Nothing,
     Flown(Leg),
 }
 
-// `stuck_s` is the yield count of document 01: how long the heading has been stuck.
-#[derive(Drop)]
+// `stuck_s` is the yield count of document 01: how long the heading has been stuck on this leg. While
+// `yielding`, the target is the craft's own heading. The wind heading outlasts legs and land calls.
+#[derive(Clone, Copy)]
 pub struct LegHeading {
     pub leg: LegMemory,
     pub stuck_s: f32,
@@ -35,38 +40,38 @@ pub struct LegHeading {
 
 // What a call flies to: a waypoint's position with the heading that is commanded there, or the
 // ground.
-#[derive(Drop)]
+#[derive(Clone, Copy)]
 pub enum Goal {
     Waypoint(Vec2, Angle),
     Land,
 }
 
-// The memory after a call, and the heading to turn to.
-#[derive(Drop)]
+// The memory after a call, and the heading target.
+#[derive(Clone, Copy)]
 pub struct Turn {
     pub memory: LegHeading,
     pub heading_rad: f32,
 }
 
-// The memory after a look at the waypoint's position, and the leg's direction.
-#[derive(Drop)]
+// The memory with the leg to a waypoint's position, and the leg's direction.
+#[derive(Clone, Copy)]
 pub struct Bearing {
     pub memory: LegHeading,
     pub bearing_rad: Angle,
 }
 
-// What a call has in sight before the wind turns the heading: the memory, the leg's direction,
-// whether the craft holds its position, and whether it lands.
-#[derive(Drop)]
-pub struct Sighted {
+// What a call knows of its goal before it asks the wind: the memory with the leg, the leg's direction,
+// whether the craft is on station, and whether it lands.
+#[derive(Clone, Copy)]
+pub struct Approach {
     pub memory: LegHeading,
     pub bearing_rad: Angle,
-    pub holds: bool,
+    pub on_station: bool,
     pub lands: bool,
 }
 
-// The memory after a look at the heading, and whether it is yielded.
-#[derive(Drop)]
+// The memory with the yield count, and whether the heading is yielded.
+#[derive(Clone, Copy)]
 pub struct Yielded {
     pub memory: LegHeading,
     pub yields: bool,
@@ -84,7 +89,7 @@ impl LegHeading {
         }
     }
 
-    // Forgets the leg and the yielding, and keeps the wind heading with its side.
+    // Forgets the leg, its count and its yielding, and keeps the wind heading with its side.
     pub fn clear(self) -> LegHeading
         ensures { result ≡ cleared self }
     {
@@ -97,7 +102,7 @@ impl LegHeading {
         }
     }
 
-    // The heading to turn to in a waypoint call.
+    // The heading target of a waypoint call, from the one before it.
     pub fn target_rad(
         self,
         dt: f32,
@@ -120,7 +125,7 @@ impl LegHeading {
         )
     }
 
-    // The heading to turn to in a land call: it is held, or turned with the wind.
+    // The heading target of a land call: the one before it, or turned with the wind.
     pub fn land_target_rad(
         self,
         dt: f32,
@@ -134,9 +139,9 @@ impl LegHeading {
         self.toward(dt, config, target_rad, Goal::Land, estimate, state)
     }
 
-    // The heading to turn to, for what a call flies to. A finite commanded heading resets all. Else
-    // it is the wind's where the craft holds its position and the wind gives one, else kept in a
-    // land call, else along the leg.
+    // The heading target for what a call flies to. A finite commanded heading resets all and is turned
+    // to. Else the wind's heading is, on station and where the wind gives one. Else a land call keeps
+    // the target, and a waypoint call turns it along the leg or yields it.
     pub fn toward(
         self,
         dt: f32,
@@ -155,11 +160,11 @@ impl LegHeading {
                 heading_rad: commanded_turn(dt, config, target_rad, heading_rad),
             };
         }
-        let sighted = self.sighted(config, goal, state);
-        let before = sighted.memory;
-        // No look at a goal changes the wind heading, so it is the one that the call began with.
+        let approach = self.approach(config, goal, state);
+        let before = approach.memory;
+        // A goal leaves the wind heading as it is, so it is the one that the call began with.
         let turn = station_turn(
-            sighted.holds,
+            approach.on_station,
             self.wind,
             config,
             estimate,
@@ -169,13 +174,13 @@ impl LegHeading {
         let memory = before.with_wind(wind);
         let turned = turn.target_rad;
         let Angle::Rad(heading_rad) = turned else {
-            if sighted.lands {
+            if approach.lands {
                 return Turn {
                     memory,
                     heading_rad: target_rad,
                 };
             }
-            let bearing_rad = sighted.bearing_rad;
+            let bearing_rad = approach.bearing_rad;
             return memory.along_leg(dt, config, target_rad, bearing_rad, state);
         };
         Turn {
@@ -184,15 +189,15 @@ impl LegHeading {
         }
     }
 
-    // A look at the goal. A land call holds its position.
-    fn sighted(self, config: HeadingConfig, goal: Goal, state: VehicleState) -> Sighted
-        ensures { result ≡ sighted self config goal state }
+    // What is known of the goal. A land call is on station, with no leg.
+    fn approach(self, config: HeadingConfig, goal: Goal, state: VehicleState) -> Approach
+        ensures { result ≡ approach self config goal state }
     {
         let Goal::Waypoint(position_m, _) = goal else {
-            return Sighted {
+            return Approach {
                 memory: self.clear(),
                 bearing_rad: Angle::Nothing,
-                holds: true,
+                on_station: true,
                 lands: true,
             };
         };
@@ -203,10 +208,10 @@ impl LegHeading {
         let leg = self.bearing_rad(config, position_m, here_m);
         let memory = leg.memory;
         let bearing_rad = leg.bearing_rad;
-        Sighted {
+        Approach {
             memory,
             bearing_rad,
-            holds: on_station(bearing_rad, config, position_m.minus(here_m)),
+            on_station: on_station(bearing_rad, config, position_m.minus(here_m)),
             lands: false,
         }
     }
@@ -260,8 +265,8 @@ impl LegHeading {
         }
     }
 
-    // The direction of the leg to the waypoint. A position that is not the leg's starts a new leg,
-    // or none where the craft's own position is not finite.
+    // The direction of the leg to the waypoint. A position that is not the leg's is new, as every one
+    // is with no leg: it starts a leg, or none where the craft's own position is not finite.
     fn bearing_rad(self, config: HeadingConfig, position_m: Vec2, here_m: Vec2) -> Bearing
         ensures { result ≡ bearing self config position_m here_m }
     {
@@ -278,6 +283,7 @@ impl LegHeading {
         self.new_leg(config, position_m, here_m)
     }
 
+    // A leg to a new position, with nothing stuck.
     fn new_leg(self, config: HeadingConfig, position_m: Vec2, here_m: Vec2) -> Bearing
         ensures { result ≡ new_leg self config position_m here_m }
     {
@@ -303,7 +309,8 @@ impl LegHeading {
         }
     }
 
-    // Counts how long the heading has been stuck, and yields once that is too long.
+    // Counts how long the heading has been stuck, and yields once that is longer than the yield time.
+    // It neither counts nor yields with no yield time or no finite own heading.
     fn yielded(
         self,
         dt: f32,
@@ -333,7 +340,7 @@ impl LegHeading {
         }
     }
 
-    // With a new yield count.
+    // The memory with another yield count, which yields if it is above the yield time.
     fn counted(self, stuck_s: f32, config: HeadingConfig) -> Yielded
         ensures { result ≡ counted self stuck_s config }
     {
@@ -388,7 +395,7 @@ fn on_leg(leg: Leg, position_m: Vec2) -> bool
     same_vector(leg.to_m, position_m)
 }
 
-// The direction of a leg that is longer than the least one.
+// The direction of a leg that is longer than the least one; none for a NaN.
 fn leg_bearing(config: HeadingConfig, leg_m: Vec2) -> Angle
     ensures { result ≡ leg_bearing config leg_m }
 {
@@ -398,7 +405,8 @@ fn leg_bearing(config: HeadingConfig, leg_m: Vec2) -> Angle
     Angle::Nothing
 }
 
-// Whether the craft holds the waypoint: its leg was short, or it is within the least leg of it.
+// Whether the craft is on station: its leg has no direction, or it is within the least leg of the
+// waypoint, which a NaN is not.
 fn on_station(bearing_rad: Angle, config: HeadingConfig, to_m: Vec2) -> bool
     ensures { result ≡ on_station bearing_rad config to_m }
 {
@@ -410,15 +418,15 @@ fn on_station(bearing_rad: Angle, config: HeadingConfig, to_m: Vec2) -> bool
 
 // The wind's heading, which is asked for on station only.
 fn station_turn(
-    holds: bool,
+    on_station: bool,
     wind: WindHeading,
     config: HeadingConfig,
     estimate: Filter,
     heading_rad: f32,
 ) -> WindTurn
-    ensures { result ≡ station_turn holds wind config estimate heading_rad }
+    ensures { result ≡ station_turn on_station wind config estimate heading_rad }
 {
-    if holds {
+    if on_station {
         return wind.target_rad(config, estimate, heading_rad);
     }
     WindTurn {
@@ -450,13 +458,15 @@ fn commanded_angle(goal: Goal) -> Angle
     finite_angle(commanded)
 }
 
+// `from_rad` turned at the heading rate, to a heading that is commanded or the wind's.
 fn commanded_turn(dt: f32, config: HeadingConfig, from_rad: f32, to_rad: f32) -> f32
     ensures { result ≡ commanded_turn dt config from_rad to_rad }
 {
     turned_toward(from_rad, to_rad, config.heading_rate_radps * dt)
 }
 
-// `from_rad` turned to `to_rad`, the shorter way round, by at most `step_rad`.
+// `from_rad` turned to `to_rad`, the shorter way round, by at most `step_rad`: not at all where that is
+// negative or a NaN.
 fn turned_toward(from_rad: f32, to_rad: f32, step_rad: f32) -> f32
     ensures { result ≡ turned_toward from_rad to_rad step_rad }
 {

@@ -1,12 +1,14 @@
-// When the wind estimate updates, and where waypoint and land flight turn the heading: along the leg,
-// with a wingtip into the wind, or with the craft where it cannot turn.
+// When the wind estimate updates, and where waypoint and land flight turn the heading: as commanded,
+// along the leg, with a wingtip into the wind, or with the craft where it cannot turn.
+#![tactic(auto)]
+
 pub mod equality;
 pub mod hover_wind;
 pub mod leg_heading;
 pub mod wind_heading;
 
 // The fields 26 to 35 of document 01.
-#[derive(Drop)]
+#[derive(Clone, Copy)]
 pub struct HeadingConfig {
     pub waypoint_yaw_radps: f32,
     pub heading_rate_radps: f32,
@@ -21,7 +23,7 @@ pub struct HeadingConfig {
 }
 
 // An angle, or none.
-#[derive(Drop)]
+#[derive(Clone, Copy)]
 pub enum Angle {
     Nothing,
     Rad(f32),

@@ -1,4 +1,5 @@
-// The heading that puts a wingtip into the wind, from wind_heading.rs.
+// The heading that puts a wingtip into the wind, from wind_heading.rs: a fixed angle off where the wind
+// comes from, on the side that was nearer the heading when it was picked.
 ghost use Rattle.std.specs.Prelude.{◌≡◌};
 ghost use Rattle.heading.specs.WindHeading.{fresh, same_estimate, weighed_already, picked_side, wingtip, moved, weigh, target};
 
@@ -8,30 +9,33 @@ use math::vectors::Vec2;
 use wind::estimate::WindEstimate;
 use wind::window::Filter;
 
-// The side of the wind that the wingtip is turned to, 1 or -1, once it is picked.
-#[derive(Drop)]
+// 1 puts the heading clockwise, from north toward east, of where the wind blows toward, and -1
+// counterclockwise.
+#[derive(Clone, Copy)]
 pub enum Side {
     Unpicked,
     Picked(f32),
 }
 
-// The estimate that was weighed last is not weighed again.
-#[derive(Drop)]
+// The side, the target that was latched, and the estimate that was weighed last, which is not weighed
+// again unless it holds a NaN.
+#[derive(Clone, Copy)]
 pub struct WindHeading {
     pub side: Side,
     pub target_rad: Angle,
     pub weighed: Filter,
 }
 
-// The memory after a call, and the heading; none where the wind gives none.
-#[derive(Drop)]
+// The memory after a call, and the heading to turn to: none where it is off, and before the wind first
+// gave one.
+#[derive(Clone, Copy)]
 pub struct WindTurn {
     pub wind: WindHeading,
     pub target_rad: Angle,
 }
 
-// The side after weighing an estimate, and the heading that it gives.
-#[derive(Drop)]
+// The side after weighing an estimate, and the heading that the estimate gives.
+#[derive(Clone, Copy)]
 pub struct Wingtip {
     pub side: Side,
     pub heading_rad: Angle,
@@ -48,7 +52,8 @@ impl WindHeading {
         }
     }
 
-    // The heading for the present estimate; off without a positive least wind.
+    // The heading to turn to: the latched one, once the present estimate is weighed. It is off without a
+    // positive least wind.
     pub fn target_rad(self, config: HeadingConfig, estimate: Filter, heading_rad: f32) -> WindTurn
         ensures { result ≡ target self config estimate heading_rad }
     {
@@ -75,8 +80,8 @@ impl WindHeading {
         }
     }
 
-    // Weighs an estimate: the target moves where the wingtip's heading is off it by more than the
-    // deadband.
+    // Weighs an estimate, and remembers it: the target moves to the wingtip's heading where it is off
+    // that by more than the deadband.
     fn weigh(self, config: HeadingConfig, present: WindEstimate, heading_rad: f32) -> WindTurn
         ensures { result ≡ weigh self config present heading_rad }
     {
@@ -107,6 +112,7 @@ fn weighed_already(weighed: Filter, present: WindEstimate) -> bool
     same_estimate(last, present)
 }
 
+// As the source's `==` has it.
 fn same_estimate(a: WindEstimate, b: WindEstimate) -> bool
     ensures { result ≡ same_estimate a b }
 {
@@ -116,7 +122,8 @@ fn same_estimate(a: WindEstimate, b: WindEstimate) -> bool
     false
 }
 
-// The target after a wingtip's heading: moved where it is off by more than the deadband.
+// The target after a wingtip's heading: moved to it where there was none, or where it is off by more
+// than the deadband.
 fn moved(target_rad: Angle, wingtip_rad: Angle, deadband_rad: f32) -> Angle
     ensures { result ≡ moved target_rad wingtip_rad deadband_rad }
 {
@@ -132,8 +139,8 @@ fn moved(target_rad: Angle, wingtip_rad: Angle, deadband_rad: f32) -> Angle
     target_rad
 }
 
-// The heading with a wingtip into the wind; none where the wind is too weak or its direction not
-// known well enough.
+// The heading `wind_heading_from_wind_rad` off where the wind comes from, on the side that is picked;
+// none where the wind is too weak, its direction not known well enough, or it is not finite.
 fn wingtip_rad(
     side: Side,
     config: HeadingConfig,
@@ -153,7 +160,7 @@ fn wingtip_rad(
         if deviation <= speed_mps * config.wind_heading_max_sd_rad {
             let toward_rad = floats::atan::atan2f(velocity.y, velocity.x);
             let s = picked_side(side, heading_rad, toward_rad);
-            let turn = s * (3.1415927 - config.wind_heading_from_wind_rad);
+            let turn = s * (math::PI - config.wind_heading_from_wind_rad);
             return Wingtip {
                 side: Side::Picked(s),
                 heading_rad: Angle::Rad(math::wrap_angle(toward_rad + turn)),
@@ -166,7 +173,7 @@ fn wingtip_rad(
     }
 }
 
-// The side once picked, or the one nearer the heading.
+// The side once picked, else the one nearer the heading, or 1 where that is a NaN.
 fn picked_side(side: Side, heading_rad: f32, toward_rad: f32) -> f32
     ensures { result ≡ picked_side side heading_rad toward_rad }
 {

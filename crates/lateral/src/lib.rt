@@ -1,5 +1,7 @@
 // Lateral control, from controllers/lateral.rs: the position error gives a velocity, and the velocity
 // error an acceleration, north and east.
+#![tactic(auto)]
+
 ghost use Rattle.std.specs.Prelude.{◌≡◌};
 ghost use Rattle.lateral.specs.Lateral.{fresh, max_speed, braking_decel, closing_velocity, shape, shaped_from, hold_against_limit, desired_velocity, tracked, neutral, control};
 
@@ -11,7 +13,7 @@ use math::vectors::Vec2;
 // metres, stays within `max_integral` on each axis. With shaping, the velocity asked for changes by at
 // most `max_accel_mps2`, and a leg brakes at `braking_share` of that; a `max_accel_mps2` of 0 turns
 // shaping off, and a leg brakes at `brake_mps2`, where 0 is no braking curve.
-#[derive(Drop)]
+#[derive(Clone, Copy)]
 pub struct LateralControllerConfig {
     pub position_p: f32,
     pub velocity: Gains,
@@ -23,28 +25,28 @@ pub struct LateralControllerConfig {
 
 // `velocity_mps` is added to the velocity that closes the position error. A `max_speed_mps` that is a
 // NaN or not positive means no cap.
-#[derive(Drop)]
+#[derive(Clone, Copy)]
 pub struct LateralTarget {
     pub position_m: Vec2,
     pub velocity_mps: Vec2,
     pub max_speed_mps: f32,
 }
 
-#[derive(Drop)]
+#[derive(Clone, Copy)]
 pub struct LateralEstimate {
     pub position_m: Vec2,
     pub velocity_mps: Vec2,
 }
 
 // The velocity that shaping has reached; none before the first shaped call and while shaping is off.
-#[derive(Drop)]
+#[derive(Clone, Copy)]
 pub enum ShapedVelocity {
     Nothing,
     At(Vec2),
 }
 
 // `commanded_velocity_mps` is the velocity that the last finite call tracked.
-#[derive(Drop)]
+#[derive(Clone, Copy)]
 pub struct LateralController {
     pub integrated_error: Vec2,
     pub derivative: DerivativeState,
@@ -53,7 +55,7 @@ pub struct LateralController {
 }
 
 // The shaped velocity after a call, the velocity to fly and the acceleration fed forward.
-#[derive(Drop)]
+#[derive(Clone, Copy)]
 pub struct Shaping {
     pub shaped_velocity_mps: ShapedVelocity,
     pub commanded_mps: Vec2,
@@ -61,7 +63,7 @@ pub struct Shaping {
 }
 
 // The controller after a call, and the acceleration that it asks for.
-#[derive(Drop)]
+#[derive(Clone, Copy)]
 pub struct LateralControl {
     pub controller: LateralController,
     pub accel_mps2: Vec2,

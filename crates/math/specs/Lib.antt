@@ -1,3 +1,4 @@
 -- The definitions that the contracts cite. Assumes nothing.
 pub mod Vectors
 pub mod Math
+pub mod Inner

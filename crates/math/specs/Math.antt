@@ -1,10 +1,10 @@
 -- math.rs as far as guidance uses it, with the order of its float operations, each rounded once. Assumes nothing.
-use Rattle.std.specs.Prelude.{◌≡◌, Bool, true, false, cond, ◌&&◌, ◌||◌, Float}
+use Rattle.std.specs.Prelude.{Bool, cond, ◌&&◌, ◌||◌, Float}
 use Rattle.std.specs.Float.{binary32}
 use Rattle.std.specs.Float.Ieee.{is_nan, neg, lt, le, eq, rem}
 use Rattle.std.specs.Float.Ieee.Scale.{finite}
 use Rattle.floats.specs.Ops.{f32, ◌⊕◌, ◌⊖◌, ◌⊗◌, ◌⊘◌}
-use Rattle.floats.specs.MinMax.{min, max, clamp}
+use Rattle.floats.specs.MinMax.{max, clamp}
 use Rattle.floats.specs.Sqrt.{sqrt}
 use Rattle.math.specs.declared.vectors.Vec2.{Vec2}
 use Rattle.math.specs.declared.vectors.Vec3.{Vec3}
@@ -29,12 +29,19 @@ one = f32 0x3F80_0000
 abbrev pub two : Float
 two = f32 0x4000_0000
 
--- π and 2π
+-- π, 2π and π/2
 abbrev pub pi : Float
 pi = f32 0x4049_0FDB
 
 abbrev pub tau : Float
 tau = f32 0x40C9_0FDB
+
+abbrev pub half_pi : Float
+half_pi = f32 0x3FC9_0FDB
+
+-- standard gravity, 9.80665 m/s²
+abbrev pub gravity : Float
+gravity = f32 0x411C_E80A
 
 -- ---- limits
 
@@ -44,32 +51,11 @@ cap_magnitude v limit =
     let length = norm v in
     cond (finite length) (cond (lt limit length) (times v (limit ⊘ length)) v) zeros
 
--- whether v is at most `limit` long, and whether it is longer
-unfoldable pub within : Vec2 → Float → Bool
-within v limit = le (norm v) limit
-
-unfoldable pub exceeds : Vec2 → Float → Bool
-exceeds v limit = lt limit (norm v)
-
 -- the part of v past the length `band`
 unfoldable pub past : Vec2 → Float → Vec2
 past v band =
     let length = norm v in
     cond (lt band length) (times v ((length ⊖ band) ⊘ length)) zeros
-
--- the limits from 0.0000001 to 10000000: each is the root of its square
-unfoldable pub has_plain_square : Float → Bool
-has_plain_square limit = le (f32 0x33D6_BF95) limit && le limit (f32 0x4B18_9680)
-
--- what is known where a limit's square told on which side of it the root of `square` is
-pub record RootWithin (square limit : Float) : Type 0 where
-  pub at_most : le (sqrt binary32 square) limit ≡ true
-  pub not_above : lt limit (sqrt binary32 square) ≡ false
-  pub bounded : finite (sqrt binary32 square) ≡ true
-
-pub record RootBeyond (square limit : Float) : Type 0 where
-  pub not_within : le (sqrt binary32 square) limit ≡ false
-  pub above : lt limit (sqrt binary32 square) ≡ true
 
 -- a limit that is negative or a NaN counts as 0
 unfoldable pub limit_or_zero : Float → Float
@@ -130,10 +116,6 @@ braked_speed distance p accel =
 unfoldable pub shaped_closing_speed : Float → Float → Float → Float
 shaped_closing_speed distance p accel =
     cond (is_nan distance || le distance zero) zero (braked_speed distance p (cond (lt zero accel) accel zero))
-
--- the same, at most `limit`
-unfoldable pub limited_closing_speed : Float → Float → Float → Float → Float
-limited_closing_speed distance p accel limit = min (shaped_closing_speed distance p accel) limit
 
 -- ---- angles
 

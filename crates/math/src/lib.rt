@@ -1,12 +1,26 @@
 // math.rs of stable-flight as far as guidance uses it: the helpers that saturate, cap and wrap, so
 // that a NaN becomes neutral and no bad number panics the loop.
+#![tactic(auto)]
+
 pub mod vectors;
 
 ghost use Rattle.std.specs.Prelude.{◌≡◌, true, false};
 ghost use Rattle.std.specs.Float.Ieee.{lt};
-ghost use Rattle.math.specs.Math.{zero, cap_magnitude, within, exceeds, past, RootWithin, RootBeyond, has_plain_square, saturate_unit, saturate_symmetric, clamp_symmetric, limit_or_zero, clamp_symmetric_each, all_finite, neu_to_ned, tilt_boost, saturate_throttle, guard_sink, shaped_closing_speed, limited_closing_speed, braked_speed, wrap_angle, rem_euclid};
+ghost use Rattle.math.specs.Math.{zero, cap_magnitude, past, saturate_unit, saturate_symmetric, clamp_symmetric, limit_or_zero, clamp_symmetric_each, all_finite, neu_to_ned, tilt_boost, saturate_throttle, guard_sink, shaped_closing_speed, braked_speed, wrap_angle, rem_euclid};
+ghost use Rattle.math.specs.Inner.{within, exceeds, limited_closing_speed, has_plain_square, RootWithin, RootBeyond};
 
 use vectors::{Quaternion, Vec2, Vec3};
+
+// π and 2π.
+pub const PI: f32 = 3.1415927;
+
+pub const TAU: f32 = 6.2831855;
+
+// π/2.
+pub const FRAC_PI_2: f32 = 1.5707964;
+
+// Standard gravity, in m/s².
+pub const GRAVITY: f32 = 9.80665;
 
 // v scaled down, keeping its direction, so that its length is at most `max`. A vector of no finite
 // length has no direction and becomes zero.
@@ -197,7 +211,7 @@ pub fn saturate_throttle(value: f32) -> f32
 }
 
 // What the sink guard does: raise the thrust, or nothing.
-#[derive(Drop)]
+#[derive(Clone, Copy)]
 pub enum SinkGuard {
     Raised(f32),
     Off,
@@ -290,11 +304,12 @@ fn surely_reaches(distance_m: f32, p: f32, accel_mps2: f32, limit_mps: f32) -> b
 pub fn wrap_angle(angle: f32) -> f32
     ensures { result ≡ wrap_angle angle }
 {
-    rem_euclid(angle + 3.1415927, 6.2831855) - 3.1415927
+    rem_euclid(angle + PI, TAU) - PI
 }
 
-// The remainder in [0, divisor) for a positive divisor: `%` has the sign of `value`, so a negative
-// one is shifted up. A value between -divisor and divisor is its own remainder.
+// The remainder from 0 on for a positive divisor: `rem` has the sign of `value`, so a negative one is
+// shifted up, and a sum that rounds to the divisor stays that. A value between -divisor and divisor is
+// its own remainder.
 pub fn rem_euclid(value: f32, divisor: f32) -> f32
     ensures { result ≡ rem_euclid value divisor }
 {
@@ -305,7 +320,7 @@ pub fn rem_euclid(value: f32, divisor: f32) -> f32
     } else if -divisor < value {
         return value + divisor;
     }
-    let remainder = value % divisor;
+    let remainder = floats::rem::rem(value, divisor);
     if remainder < 0.0 {
         return remainder + divisor;
     }

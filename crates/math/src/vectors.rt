@@ -3,13 +3,13 @@
 ghost use Rattle.std.specs.Prelude.{◌≡◌};
 ghost use Rattle.math.specs.Vectors.{zeros, plus, minus, times, over, dot, norm};
 
-#[derive(Drop)]
+#[derive(Clone, Copy)]
 pub struct Vec2 {
     pub x: f32,
     pub y: f32,
 }
 
-#[derive(Drop)]
+#[derive(Clone, Copy)]
 pub struct Vec3 {
     pub x: f32,
     pub y: f32,
@@ -17,7 +17,7 @@ pub struct Vec3 {
 }
 
 // An attitude, taken as given: nothing makes its length 1.
-#[derive(Drop)]
+#[derive(Clone, Copy)]
 pub struct Quaternion {
     pub w: f32,
     pub i: f32,

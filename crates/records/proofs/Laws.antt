@@ -2,6 +2,7 @@
 pub mod Layout
 pub mod Values
 pub mod Counts
+pub mod AnswerBytes
 pub mod Total
 pub mod Read
 pub mod Facts

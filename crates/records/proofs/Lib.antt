@@ -1,5 +1,4 @@
 -- What the proofs share, and what the layers above cite. Assumes nothing.
-pub mod Written
 pub mod Parts
 pub mod Steps
 pub mod Underway

@@ -1,14 +1,12 @@
--- The record operation by its kind: what it comes to where a body is cut short and where it is whole, and that a verdict that was written is what the definition answers.
--- Assumes nothing.
+-- The record operation by its kind: what it comes to where a body is cut short and where it is whole, and that a verdict
+-- that was written is what the definition answers. Assumes nothing.
 use Prim.Native.Nat.{ℕ, suc, ◌-◌, ◌≤◌, ◌<◌}
 use mathlib.Core.Path.{◌≡◌, refl, ◌∙◌}
 use mathlib.Core.Bool.{false}
-use mathlib.Core.List.{List, [], ◌∷◌, ◌++◌}
+use mathlib.Core.List.{List, ◌++◌}
 use native.Mathlib.Omega.{arith}
 use borrow.Author.Tests.{lt-ltb, le-ltb, eq-eqb, ne_eqb}
 use lib.ListN.{length, take, drop, length-drop}
-use denote.Enum.Declared.{tag_of}
-use types.Run.{OneOf, miss}
 use Rattle.copter.specs.declared.memory.CopterGuidance.{CopterGuidance}
 use Rattle.records.specs.declared.craft.Guidance.TheVariants.{Configured}
 use Rattle.records.specs.declared.craft.Craft.{Craft}
@@ -16,7 +14,6 @@ use Rattle.records.specs.declared.answer.Refusal.TheVariants as refusals
 use Rattle.records.specs.declared.answer.Answer.{Answer}
 use Rattle.records.specs.declared.kinds.InFlight.{InFlight}
 use Rattle.records.specs.declared.kinds.Kind.{Kind}
-use Rattle.records.specs.contracts.kinds.Kind.{the_type}
 use Rattle.records.specs.declared.kinds.Kind.TheVariants as kinds
 use Rattle.records.specs.Answer.{answer_bytes}
 use Rattle.records.specs.Layout.{byte_at}
@@ -66,7 +63,7 @@ module _ (craft : Craft) (bytes buffer : List ℕ) (room : answer_room ≤ lengt
           rw (a, b, with_its_body, le-ltb (length (drop 1 bytes)) (body_length kind) behind)
 
 -- a `let .. else` on a kind that is not one in flight
-pub unserved : (g : CopterGuidance) (kind : Kind) → OneOf (0 ∷ 2 ∷ []) (tag_of the_type kind) → serves (Configured g) kind ≡ false
+pub unserved : (g : CopterGuidance) (kind : Kind) → ((k : InFlight) → kind ≡ kinds.InFlight k → ⊥) → serves (Configured g) kind ≡ false
 unserved g kinds.Configure other = refl
-unserved g (kinds.InFlight kind) other = absurd (miss (0 ∷ 2 ∷ []) 1 tt other)
+unserved g (kinds.InFlight k) other = absurd (other k refl)
 unserved g kinds.Unknown other = refl

@@ -1,4 +1,5 @@
--- A flight under way: the flight that a loop of the port has come to, from the one that it set out with. What is to come of the two is the same. Assumes nothing.
+-- A flight under way: the flight that a loop of the port has come to, from the one that it set out with. What is to come of the two is the same.
+-- Assumes nothing.
 use Prim.Native.Nat.{ℕ, ◌+◌, ◌-◌, ◌≤◌}
 use mathlib.Core.Path.{◌≡◌, refl, ap, ◌∙◌}
 use mathlib.Core.Bool.{Bool, false}

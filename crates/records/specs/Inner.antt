@@ -40,7 +40,7 @@ refused_taking refusal taken = judged_as (Refused refusal) taken
 abbrev pub serves : Guidance → Kind → Bool
 serves Unconfigured kind = false
 serves (Configured g) kinds.Configure = false
-serves (Configured g) (kinds.InFlight kind) = true
+serves (Configured g) (kinds.InFlight _) = true
 serves (Configured g) kinds.Unknown = false
 
 -- what `turn` gives, with the buffer that it leaves

@@ -1,4 +1,4 @@
--- The definitions that the contracts cite. Assumes nothing.
+-- The definitions that the contracts cite, and the values of each layout by name. Assumes nothing.
 pub mod Layout
 pub mod Kinds
 pub mod Values
@@ -8,6 +8,7 @@ pub mod Read
 pub mod Step
 pub mod Flight
 -- The claims.
+pub mod AnswerBytes
 pub mod Total
 pub mod Feed
 pub mod Facts

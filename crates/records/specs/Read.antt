@@ -17,14 +17,12 @@ use Rattle.copter.specs.declared.commands.WaypointCommand.{WaypointCommand}
 use Rattle.copter.specs.declared.commands.AbsoluteAttitudeCommand.{AbsoluteAttitudeCommand}
 use Rattle.copter.specs.declared.commands.LandCommand.{LandCommand}
 use Rattle.copter.specs.declared.commands.AbsoluteRateCommand.{AbsoluteRateCommand}
-use Rattle.copter.specs.declared.commands.Command.{Command}
 use Rattle.copter.specs.declared.commands.Command.TheVariants as commands
 use Rattle.records.specs.declared.answer.Refusal.TheVariants as refusals
 use Rattle.records.specs.declared.kinds.Call.{Call}
 use Rattle.records.specs.declared.kinds.Call.TheVariants as calls
 use Rattle.records.specs.declared.kinds.InFlight.{InFlight}
 use Rattle.records.specs.declared.kinds.InFlight.TheVariants as flights
-use Rattle.records.specs.declared.read.Input.{Input}
 use Rattle.records.specs.declared.read.Input.TheVariants as inputs
 use Rattle.records.specs.declared.read.Read.{Read}
 use Rattle.records.specs.declared.read.Read.TheVariants as reading

@@ -5,13 +5,13 @@ ghost use Rattle.records.specs.Craft.{unconfigured};
 use copter::memory::CopterGuidance;
 
 // Nothing before the first accepted configure, then a craft.
-#[derive(Drop)]
+#[derive(Clone, Copy)]
 pub enum Guidance {
     Unconfigured,
     Configured(CopterGuidance),
 }
 
-#[derive(Drop)]
+#[derive(Clone, Copy)]
 pub struct Craft {
     pub guidance: Guidance,
 }

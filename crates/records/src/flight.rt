@@ -12,7 +12,7 @@ use copter::memory::CopterGuidance;
 
 // The craft after some records of a flight, the bytes taken and written, and whether the flight is
 // over: refusals 5 and 6 end it.
-#[derive(Drop)]
+#[derive(Clone, Copy)]
 pub struct Flown {
     pub craft: Craft,
     pub taken: usize,
@@ -110,8 +110,8 @@ fn serve(at: Flown, bytes: &[u8], last: bool, out: &mut [u8]) -> Flown
 // Handles one record that `serve` does not.
 fn begin(at: Flown, bytes: &[u8], out: &mut [u8]) -> Flown
     requires going { Going bytes.now (length out.old) (flown at out.old) }
-    requires out_value { waiting true bytes.now (flown at out.old) ≡ false }
-    requires out_value_2 { serving bytes.now (flown at out.old) ≡ false }
+    requires not_waiting { waiting true bytes.now (flown at out.old) ≡ false }
+    requires not_serving { serving bytes.now (flown at out.old) ≡ false }
     ensures { flown result out.new ≡ next bytes.now (flown at out.old) }
 {
     let before = at.craft;

@@ -6,7 +6,7 @@ ghost use Rattle.records.specs.Kinds.{kind_of, command_layout, in_flight_layout,
 use copter::config::FIELDS;
 
 // The calls, which fly the craft.
-#[derive(Drop)]
+#[derive(Clone, Copy)]
 pub enum Call {
     Attitude,
     Waypoint,
@@ -16,7 +16,7 @@ pub enum Call {
 }
 
 // The kinds that need a configured craft, and leave its configuration.
-#[derive(Drop)]
+#[derive(Clone, Copy)]
 pub enum InFlight {
     Prime,
     Call(Call),
@@ -25,7 +25,7 @@ pub enum InFlight {
 }
 
 // What a byte of kind says.
-#[derive(Drop)]
+#[derive(Clone, Copy)]
 pub enum Kind {
     Configure,
     InFlight(InFlight),

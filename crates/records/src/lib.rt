@@ -1,4 +1,6 @@
 // The records of a flight file: one operation reads a record, guides the craft and writes the answer.
+#![tactic(auto)]
+
 pub mod answer;
 pub mod craft;
 pub mod flight;

@@ -23,7 +23,7 @@ use math::vectors::{Quaternion, Vec2, Vec3};
 use wind::state::VehicleState;
 
 // What a configured craft is told.
-#[derive(Drop)]
+#[derive(Clone, Copy)]
 pub enum Input {
     Prime(VehicleState),
     // A time step in seconds, a state and a command.
@@ -31,21 +31,21 @@ pub enum Input {
     Wind,
 }
 
-#[derive(Drop)]
+#[derive(Clone, Copy)]
 pub enum Read {
     Input(Input),
     Refused(Refusal),
 }
 
 // A configuration, or the lowest of its fields that breaks its rule.
-#[derive(Drop)]
+#[derive(Clone, Copy)]
 pub enum Configuration {
     Of(CopterGuidanceConfig),
     Broken(u8),
 }
 
 // A call's command, or none where a mark is neither 0 nor 1.
-#[derive(Drop)]
+#[derive(Clone, Copy)]
 pub enum CommandRead {
     Command(Command),
     BadMark,

@@ -11,7 +11,7 @@ use copter::memory::CopterGuidance;
 pub const ANSWER_ROOM: usize = 25;
 
 // The craft after a record, its answer, and the bytes taken and written.
-#[derive(Drop)]
+#[derive(Clone, Copy)]
 pub struct Handled {
     pub craft: Craft,
     pub answer: Answer,

@@ -20,14 +20,14 @@ use copter::memory::{CopterGuidance, Memory};
 use wind::window::Filter;
 
 // The memory after an input, and its answer.
-#[derive(Drop)]
+#[derive(Clone, Copy)]
 pub struct Performed {
     pub memory: Memory,
     pub answer: Answer,
 }
 
 // The memory after a record of a configured craft, the answer, and the bytes taken and written.
-#[derive(Drop)]
+#[derive(Clone, Copy)]
 pub struct Turned {
     pub memory: Memory,
     pub answer: Answer,
@@ -110,7 +110,7 @@ pub fn turn(
 ) -> Turned
     requires in_bounds { 1 ≤ length bytes.now }
     requires answer_room_in_bounds { answer_room ≤ length out.old }
-    requires bytes_value { kind_of (byte_at bytes.now 0) ≡ kinds.InFlight kind }
+    requires of_kind { kind_of (byte_at bytes.now 0) ≡ kinds.InFlight kind }
     ensures { turned config result out.new ≡ step (craft_of config memory) bytes.now out.old }
 {
     let needed = crate::kinds::body_length(Kind::InFlight(kind));
@@ -179,7 +179,7 @@ fn configure(craft: Craft, body: &[u8], taken: usize, out: &mut [u8]) -> Handled
 pub fn start(craft: Craft, bytes: &[u8], out: &mut [u8]) -> Handled
     requires in_bounds { 1 ≤ length bytes.now }
     requires answer_room_in_bounds { answer_room ≤ length out.old }
-    requires bytes_value { serves craft.guidance (kind_of (byte_at bytes.now 0)) ≡ false }
+    requires of_kind { serves craft.guidance (kind_of (byte_at bytes.now 0)) ≡ false }
     ensures { reported result out.new ≡ step craft bytes.now out.old }
 {
     let kind = crate::kinds::kind_of(bytes[0]);

@@ -95,7 +95,9 @@ fn put(source: &[u8], out: &mut [u8]) -> usize
     ensures value { result ≡ length source.now }
     ensures out_after { out.new ≡ source.now ++ drop result out.old }
 {
-    bytes::copy(source, out)
+    let size = source.len();
+    out[..size].copy_from_slice(source);
+    size
 }
 
 // Writes the answer to an accepted configure or priming.

@@ -7,7 +7,7 @@ use crate::{controllers_rs, copter_rs, heading_rs, leaves, math_rs, wind_rs, wor
 use heading::hover_wind::HoverWind;
 
 // What the functions with memory keep from entry to entry.
-#[derive(Drop)]
+#[derive(Clone, Copy)]
 pub struct Memory {
     pub controllers: controllers_rs::Memory,
     pub wind: HoverWind,
@@ -15,7 +15,7 @@ pub struct Memory {
 }
 
 // The memory after some entries, the bytes that they took and the bytes of their answers.
-#[derive(Drop)]
+#[derive(Clone, Copy)]
 pub struct Progress {
     pub memory: Memory,
     pub used: usize,

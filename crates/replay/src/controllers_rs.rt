@@ -13,7 +13,7 @@ use lateral::{
     LateralController, LateralControllerConfig, LateralEstimate, LateralTarget, ShapedVelocity,
 };
 
-#[derive(Drop)]
+#[derive(Clone, Copy)]
 pub struct Memory {
     pub divider: RateDivider,
     pub history: DerivativeState,

@@ -8,7 +8,7 @@ use heading::leg_heading::{LegHeading, LegMemory};
 use heading::wind_heading::{Side, WindHeading};
 use heading::{Angle, HeadingConfig};
 
-#[derive(Drop)]
+#[derive(Clone, Copy)]
 pub struct Memory {
     pub wind: WindHeading,
     pub leg: LegHeading,

@@ -27,7 +27,7 @@ pub fn answer(function: u8, w: &Taken, out: &mut Given) {
         6 => bits(floats::compare::signum(x)),
         7 => bits(floats::minmax::min(x, y)),
         8 => bits(floats::minmax::max(x, y)),
-        9 => bits(x % y),
+        9 => bits(floats::rem::rem(x, y)),
         10 => truth(floats::compare::is_finite(x)),
         11 => truth(floats::compare::is_nan(x)),
         12 => clamp(x, y, float(w[2])),

@@ -131,13 +131,18 @@ pub fn put_filter(filter: Filter, out: &mut Given, at: usize)
     requires { at ≤ 13 }
 {
     if let Filter::Estimate(estimate) = filter {
-        let covariance = estimate.covariance_m2ps2;
         put_some_vec2(out, at, estimate.velocity_mps);
-        out[at + 3] = bits(covariance.m00);
-        out[at + 4] = bits(covariance.m01);
-        out[at + 5] = bits(covariance.m10);
-        out[at + 6] = bits(covariance.m11);
+        put_matrix(out, at + 3, estimate.covariance_m2ps2);
     }
+}
+
+fn put_matrix(out: &mut Given, at: usize, matrix: Matrix2)
+    requires { at ≤ 16 }
+{
+    out[at] = bits(matrix.m00);
+    out[at + 1] = bits(matrix.m01);
+    out[at + 2] = bits(matrix.m10);
+    out[at + 3] = bits(matrix.m11);
 }
 
 fn put_window(window: Window, out: &mut Given) {

@@ -10,7 +10,7 @@ pub type Taken = [u32; 40];
 pub type Given = [u32; 20];
 
 // How many words a function takes and gives; 0 where there is no such function.
-#[derive(Drop)]
+#[derive(Clone, Copy)]
 pub struct Counts(pub usize, pub usize);
 
 // Stands for a result that the Rust does not give, since it would panic.

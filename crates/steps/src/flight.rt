@@ -7,14 +7,14 @@ use records::answer::Answer;
 use records::craft::Craft;
 
 // The craft, and the flags that the Rust keeps in it.
-#[derive(Drop)]
+#[derive(Clone, Copy)]
 pub struct Flight {
     pub craft: Craft,
     pub flags: Flags,
 }
 
 // The flight after a record, and the bytes that the record took.
-#[derive(Drop)]
+#[derive(Clone, Copy)]
 pub struct Stepped {
     pub flight: Flight,
     pub taken: usize,

@@ -1,5 +1,5 @@
 -- The drag along an axis, from `WindConfig` and `AxisDrag` of wind.rs. Assumes nothing.
-use Rattle.std.specs.Prelude.{Bool, cond, ◌||◌, Float}
+use Rattle.std.specs.Prelude.{Bool, cond, ◌||◌, Option, Some, None, Float}
 use Rattle.std.specs.Float.{binary32}
 use Rattle.std.specs.Float.Ieee.{neg, lt}
 use Rattle.floats.specs.Ops.{f32, ◌⊕◌, ◌⊖◌, ◌⊗◌, ◌⊘◌}
@@ -9,8 +9,6 @@ use Rattle.math.specs.Math.{zero, half, two}
 use Rattle.math.specs.declared.vectors.Vec2.{Vec2}
 use Rattle.wind.specs.declared.drag.WindConfig.{WindConfig}
 use Rattle.wind.specs.declared.drag.AxisDrag.{AxisDrag}
-use Rattle.wind.specs.declared.drag.AirVelocity.{AirVelocity}
-use Rattle.wind.specs.declared.drag.AirVelocity.TheVariants.{Unknown, Along}
 
 abbrev pub four : Float
 four = f32 0x4080_0000
@@ -45,37 +43,30 @@ slope axis air axial =
 
 -- ---- the air velocity that a force tells
 
+-- the speed with this push where there is no air along the thrust axis
 unfoldable pub still_air : AxisDrag → Float → Float
-still_air axis force =
+still_air axis push =
     let k = axis.k_per_m in
     let mu = axis.mu_per_s in
-    (sqrt binary32 (mu ⊗ mu ⊕ four ⊗ k ⊗ force) ⊖ mu) ⊘ (two ⊗ k)
+    (sqrt binary32 (mu ⊗ mu ⊕ four ⊗ k ⊗ push) ⊖ mu) ⊘ (two ⊗ k)
 
+-- one step of Newton's method towards the speed with the push `wanted`
 unfoldable pub newton_step : AxisDrag → Float → Float → Float → Float
-newton_step axis force axial speed =
-    let excess = push axis speed axial ⊖ force in
+newton_step axis wanted axial speed =
+    let excess = push axis speed axial ⊖ wanted in
     let rise = slope axis speed axial in
     cond (lt zero rise) (speed ⊖ excess ⊘ rise) speed
-
-abbrev pub three_steps : AxisDrag → Float → Float → Float → Float
-three_steps axis force axial speed =
-    let refined : Float → Float = newton_step axis force axial in
-    refined (refined (refined speed))
 
 -- a speed with the sign against a force
 unfoldable pub against : Float → Float → Float
 against force speed = cond (lt zero force) (neg speed) speed
 
--- an air velocity, with the slope there
-abbrev along : AxisDrag → Float → Float → AirVelocity
-along axis axial air = Along air (slope axis air axial)
-
 -- Four steps of Newton's method from still air, or with momentum drag alone its quotient; none with no drag.
-unfoldable pub air_velocity : AxisDrag → Float → Float → AirVelocity
+unfoldable pub air_velocity : AxisDrag → Float → Float → Option Float
 air_velocity axis force axial =
     let refined : Float → Float = newton_step axis (abs force) axial in
-    cond (lt zero axis.k_per_m) (along axis axial (against force (refined (refined (refined (refined (still_air axis (abs force))))))))
-    (cond (lt zero axis.mu_per_s) (along axis axial (against force (abs force ⊘ axis.mu_per_s))) Unknown)
+    cond (lt zero axis.k_per_m) (Some (against force (refined (refined (refined (refined (still_air axis (abs force))))))))
+    (cond (lt zero axis.mu_per_s) (Some (against force (abs force ⊘ axis.mu_per_s))) None)
 
 -- ---- the drag at an air velocity, level
 

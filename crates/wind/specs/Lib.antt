@@ -4,3 +4,4 @@ pub mod Estimate
 pub mod Sample
 pub mod Wind
 pub mod Window
+pub mod Inner

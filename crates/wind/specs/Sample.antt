@@ -5,7 +5,7 @@ use Rattle.std.specs.Float.Ieee.{neg, lt}
 use Rattle.std.specs.Float.Ieee.Scale.{finite}
 use Rattle.floats.specs.Ops.{f32, ◌⊕◌, ◌⊖◌, ◌⊗◌}
 use Rattle.floats.specs.Compare.{abs}
-use Rattle.math.specs.Math.{two, all_finite, neu_to_ned}
+use Rattle.math.specs.Math.{two, gravity, all_finite, neu_to_ned}
 use Rattle.math.specs.declared.vectors.Vec3.{Vec3}
 use Rattle.math.specs.declared.vectors.Quaternion.{Quaternion}
 use Rattle.wind.specs.declared.state.VehicleState.{VehicleState}
@@ -50,10 +50,6 @@ abbrev pub dot3 : Vec3 → Vec3 → Float
 dot3 v w = v.x ⊗ w.x ⊕ v.y ⊗ w.y ⊕ v.z ⊗ w.z
 
 -- ---- the sample
-
--- 9.80665 m/s²
-abbrev pub gravity : Float
-gravity = f32 0x411C_E80A
 
 -- the cosine of 45°
 abbrev pub min_tilt_cosine : Float

@@ -1,5 +1,5 @@
 -- The wind estimator, from `WindEstimator` and `Window` of wind.rs. Assumes nothing.
-use Rattle.std.specs.Prelude.{◌+◌, ◌%◌, ◌^◌, cond, pos, Float}
+use Rattle.std.specs.Prelude.{◌+◌, ◌%◌, ◌^◌, cond, Option, Some, None, pos, Float}
 use Rattle.std.specs.Float.{binary32}
 use Rattle.std.specs.Float.Ieee.{of_int, lt}
 use Rattle.floats.specs.Ops.{f32, ◌⊕◌, ◌⊖◌, ◌⊗◌, ◌⊘◌}
@@ -10,8 +10,6 @@ use Rattle.math.specs.declared.vectors.Vec2.{Vec2}
 use Rattle.wind.specs.declared.state.VehicleState.{VehicleState}
 use Rattle.wind.specs.declared.drag.WindConfig.{WindConfig}
 use Rattle.wind.specs.declared.drag.AxisDrag.{AxisDrag}
-use Rattle.wind.specs.declared.drag.AirVelocity.{AirVelocity}
-use Rattle.wind.specs.declared.drag.AirVelocity.TheVariants.{Unknown, Along}
 use Rattle.wind.specs.declared.estimate.WindEstimate.{WindEstimate}
 use Rattle.wind.specs.declared.sample.Sample.{Sample}
 use Rattle.wind.specs.declared.sample.Sampled.{Sampled}
@@ -79,16 +77,18 @@ unfoldable pub filter_or : Filter → WindConfig → WindEstimate
 filter_or filters.Nothing config = initial config
 filter_or (filters.Estimate estimate) config = estimate
 
--- the noise of the wind along an axis: the force's over the drag's slope, the steeper of that at the predicted air velocity and `rise`, that at the measured one
+-- the noise of the wind along an axis: the force's over the drag's slope, the steeper of that at the predicted and that at the measured air velocity
 unfoldable pub noise : Float → AxisDrag → Float → Float → Float → Float
-noise force_noise drag predicted_air rise axial = force_noise ⊘ max (max (slope drag predicted_air axial) rise) min_drag_slope
+noise force_noise drag predicted_air air axial =
+    let steeper = max (slope drag predicted_air axial) (slope drag air axial) in
+    force_noise ⊘ max steeper min_drag_slope
 
 -- corrected by the air velocity that the force along an axis tells
-unfoldable pub axis_corrected_by : AirVelocity → WindEstimate → WindConfig → AxisDrag → Vec2 → Measured → WindEstimate
-axis_corrected_by Unknown estimate config drag axis means = estimate
-axis_corrected_by (Along air rise) estimate config drag axis means =
+unfoldable pub axis_corrected_by : Option Float → WindEstimate → WindConfig → AxisDrag → Vec2 → Measured → WindEstimate
+axis_corrected_by None estimate config drag axis means = estimate
+axis_corrected_by (Some air) estimate config drag axis means =
     let predicted_air = means.ground_mps ⊖ dot axis estimate.velocity_mps in
-    let sd = noise config.force_noise_mps2 drag predicted_air rise means.axial_mps in
+    let sd = noise config.force_noise_mps2 drag predicted_air air means.axial_mps in
     correct estimate axis (means.ground_mps ⊖ air) (sd ⊗ sd) config.gate_sigma
 
 unfoldable pub axis_corrected : WindEstimate → WindConfig → AxisDrag → Vec2 → Measured → WindEstimate
@@ -97,7 +97,7 @@ axis_corrected estimate config drag axis means =
     axis_corrected_by (air_velocity drag means.force_mps2 means.axial_mps) estimate config drag axis means
 
 abbrev measured : Float → Float → Float → Measured
-measured force ground axial = record { force_mps2 = force; ground_mps = ground; axial_mps = axial }
+measured force ground_speed axial = record { force_mps2 = force; ground_mps = ground_speed; axial_mps = axial }
 
 -- one axis after the other
 unfoldable pub closed : Filter → WindConfig → Window → WindEstimate

@@ -5,8 +5,8 @@ use Rattle.std.specs.Float.{binary32}
 use Rattle.std.specs.Float.Ieee.{of_int, round, lt, le}
 use Rattle.std.specs.Float.Ieee.Exact.{HasValue}
 use Rattle.std.specs.Float.Ieee.Scale.{finite}
-use Rattle.floats.specs.Ops.{f32}
-use Rattle.math.specs.Math.{zero, one}
+use Rattle.math.specs.Math.{zero}
+use Rattle.controllers.specs.RateDivider.{shortest, Accepted}
 use Rattle.wind.specs.declared.state.VehicleState.{VehicleState}
 use Rattle.wind.specs.declared.drag.WindConfig.{WindConfig}
 use Rattle.wind.specs.declared.sample.Sample.{Sample}
@@ -20,15 +20,7 @@ use Rattle.wind.specs.Wind.{update_period, empty, grown, closed, update}
 
 -- ---- time steps
 
--- 1/4,096 s, the least step that document 01 accepts
-abbrev pub least_step : Float
-least_step = f32 0x3980_0000
-
-pub record Accepted (dt : Float) : Type 0 where
-  pub at_least : T (le least_step dt)
-  pub at_most : T (le dt one)
-
--- n of the least steps
+-- n of the shortest steps
 abbrev pub steps : ℕ → Float
 steps n = round binary32 false n 4096
 
@@ -68,19 +60,19 @@ pub record AcceptedSample (config : WindConfig) : Type 0 where
   pub is_taken : from_state state config.max_axial_speed_mps ≡ Taken sample
 
 -- the estimator after these updates
-unfoldable pub updates : WindEstimator → (config : WindConfig) → List (AcceptedSample config) → WindEstimator
-updates self config [] = self
-updates self config (next ∷ samples) = updates (update self next.dt config next.state) config samples
+unfoldable pub updates : (config : WindConfig) → WindEstimator → List (AcceptedSample config) → WindEstimator
+updates config self [] = self
+updates config self (next ∷ samples) = updates config (update self next.dt config next.state) samples
 
 -- a window with these samples added
 unfoldable pub sums : {config : WindConfig} → Window → List (AcceptedSample config) → Window
 sums window [] = window
 sums window (next ∷ samples) = sums (grown window next.dt next.sample) samples
 
--- each at dt 1/4,096
+-- each of these samples at dt 1/4,096
 abbrev pub LeastSteps : {config : WindConfig} → List (AcceptedSample config) → Type 0
 LeastSteps [] = Unit {0}
-LeastSteps (next ∷ samples) = (next.dt ≡ least_step) × LeastSteps samples
+LeastSteps (next ∷ samples) = (next.dt ≡ shortest) × LeastSteps samples
 
 -- ---- the claim
 
@@ -88,10 +80,10 @@ LeastSteps (next ∷ samples) = (next.dt ≡ least_step) × LeastSteps samples
 -- and an empty window are left. Each sample is counted once.
 pub record ClosesAt (self : WindEstimator) (config : WindConfig) (samples : List (AcceptedSample config)) (n : ℕ) : Type 0 where
   pub gathers : (k : ℕ) → k < n
-      → updates self config (take k samples) ≡ record { filter = self.filter; window = sums self.window (take k samples) }
+      → updates config self (take k samples) ≡ record { filter = self.filter; window = sums self.window (take k samples) }
   pub counts : (k : ℕ) → k ≤ n → (sums self.window (take k samples)).ticks ≡ self.window.ticks + k
   pub long : T (le update_period (sums self.window (take n samples)).elapsed_s)
-  pub closes : updates self config (take n samples)
+  pub closes : updates config self (take n samples)
       ≡ record { filter = Estimate (closed self.filter config (sums self.window (take n samples))); window = empty }
 
 -- Of an estimator with an empty window, as a fresh one has and as each window that closes leaves, and a configuration with a drag coefficient.

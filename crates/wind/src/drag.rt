@@ -2,15 +2,17 @@
 // rotors' momentum drag.
 ghost use Rattle.std.specs.Prelude.{◌≡◌, true};
 ghost use Rattle.math.specs.Math.{zero};
-ghost use Rattle.wind.specs.Drag.{is_on, axis_drag, push, slope, newton_step, three_steps, still_air, against, air_velocity, drag_along, drag};
+ghost use Rattle.wind.specs.Drag.{is_on, axis_drag, push, slope, newton_step, still_air, against, drag_along, drag};
+ghost use Rattle.wind.specs.Inner.{three_steps, air_and_slope};
 
 use math::vectors::Vec2;
 
 // Sea-level air density, in kg/m³.
-pub const AIR_DENSITY_KGPM3: f32 = 1.225;
+const AIR_DENSITY_KGPM3: f32 = 1.225;
 
-// The drag figures of document 01's fields 42 to 50, in the order of the source.
-#[derive(Drop)]
+// Document 01's fields 42 to 50, in the order of the source: the drag along the thrust frame's x and
+// y, where 0 leaves a term out, the filter's noise, and the most speed along the thrust axis.
+#[derive(Clone, Copy)]
 pub struct WindConfig {
     pub ballistic_kgpm2: Vec2,
     pub momentum_per_s: Vec2,
@@ -21,23 +23,24 @@ pub struct WindConfig {
     pub max_axial_speed_mps: f32,
 }
 
-// The coefficients of one axis.
-#[derive(Drop)]
+// The drag along one axis: `(k·V + μ)·v` for an air velocity of size v along it and an airspeed V. k
+// is 0 without a ballistic figure.
+#[derive(Clone, Copy)]
 pub struct AxisDrag {
     pub k_per_m: f32,
     pub mu_per_s: f32,
 }
 
 // The air velocity along an axis and the drag's slope there; none where the axis has no drag.
-#[derive(Drop)]
+#[derive(Clone, Copy)]
 pub enum AirVelocity {
     Unknown,
     Along(f32, f32),
 }
 
-// A speed found by Newton's method, and a slope of the push.
-#[derive(Drop)]
-pub struct Step {
+// A speed that Newton's method has found, and the push's slope there or at the speed before.
+#[derive(Clone, Copy)]
+struct Step {
     pub speed: f32,
     pub slope_per_s: f32,
 }
@@ -89,15 +92,15 @@ impl AxisDrag {
         }
     }
 
-    // Minus the push at an air velocity with none along the thrust axis, with the velocity's sign.
-    pub fn drag_along(self, air_mps: f32) -> f32
+    // The drag against an air velocity, where there is no air along the thrust axis.
+    fn drag_along(self, air_mps: f32) -> f32
         ensures { result ≡ drag_along self air_mps }
     {
         -self.level_push_mps2(air_mps) * floats::compare::signum(air_mps)
     }
 
-    // The push with no velocity along the thrust axis: the airspeed is then the size of the air
-    // velocity.
+    // The push where there is no air along the thrust axis: the airspeed is then the size of the air
+    // velocity, and no root is taken where the size's square is a plain one.
     fn level_push_mps2(self, air_mps: f32) -> f32
         ensures { result ≡ push self air_mps zero }
     {
@@ -108,8 +111,8 @@ impl AxisDrag {
         self.push_mps2(air_mps, 0.0)
     }
 
-    // The size of the drag's acceleration.
-    pub fn push_mps2(self, air_mps: f32, axial_mps: f32) -> f32
+    // The size of the drag's acceleration, with air along the axis and along the thrust axis.
+    fn push_mps2(self, air_mps: f32, axial_mps: f32) -> f32
         ensures { result ≡ push self air_mps axial_mps }
     {
         let airspeed_mps = floats::sqrt::sqrtf(air_mps * air_mps + axial_mps * axial_mps);
@@ -128,10 +131,11 @@ impl AxisDrag {
         0.0 + self.mu_per_s
     }
 
-    // One step of Newton's method for the speed whose push is `push`, and the slope at `speed`.
+    // One step of Newton's method for the speed whose push is `push`, and the slope at `speed`. Where
+    // the slope is not positive, the speed stays.
     fn newton_step(self, push: f32, axial_mps: f32, speed: f32) -> Step
-        ensures speed_value { result.speed ≡ newton_step self push axial_mps speed }
-        ensures slope_per_s_value { result.slope_per_s ≡ slope self speed axial_mps }
+        ensures speed { result.speed ≡ newton_step self push axial_mps speed }
+        ensures slope_per_s { result.slope_per_s ≡ slope self speed axial_mps }
     {
         let excess = self.push_mps2(speed, axial_mps) - push;
         let slope_per_s = self.slope_per_s(speed, axial_mps);
@@ -147,8 +151,7 @@ impl AxisDrag {
     // Three steps, and the slope at the last speed. After a step that left the speed as it was, the
     // others would too, and are not taken.
     fn three_steps(self, push: f32, axial_mps: f32, speed: f32) -> Step
-        ensures speed_value { result.speed ≡ three_steps self push axial_mps speed }
-        ensures slope_per_s_value { result.slope_per_s ≡ slope self (three_steps self push axial_mps speed) axial_mps }
+        ensures { result ≡ three_steps self push axial_mps speed }
     {
         let first = self.newton_step(push, axial_mps, speed);
         if surely_same(speed, first.speed) {
@@ -165,7 +168,7 @@ impl AxisDrag {
         }
     }
 
-    // The speed whose push is `push` where there is none along the thrust axis.
+    // The speed whose push is `push` where there is no air along the thrust axis.
     fn still_air(self, push: f32) -> f32
         ensures { result ≡ still_air self push }
     {
@@ -174,9 +177,10 @@ impl AxisDrag {
         (floats::sqrt::sqrtf(mu * mu + 4.0 * k * push) - mu) / (2.0 * k)
     }
 
-    // The air velocity that pushes with `force_mps2`, and the slope there. It is against the force.
+    // The air velocity that the drag `force_mps2` comes from, and the slope there. Drag opposes the air
+    // velocity, so that it is against the force.
     pub fn air_velocity(self, force_mps2: f32, axial_mps: f32) -> AirVelocity
-        ensures { result ≡ air_velocity self force_mps2 axial_mps }
+        ensures { result ≡ air_and_slope self force_mps2 axial_mps }
     {
         let push = floats::compare::abs(force_mps2);
         if self.k_per_m > 0.0 {

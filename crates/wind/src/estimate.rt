@@ -5,8 +5,8 @@ ghost use Rattle.wind.specs.Estimate.{initial, predict, correct, corrected, cova
 use crate::drag::WindConfig;
 use math::vectors::Vec2;
 
-// Two rows of two.
-#[derive(Drop)]
+// Two rows of two, in m²/s² where it is a covariance.
+#[derive(Clone, Copy)]
 pub struct Matrix2 {
     pub m00: f32,
     pub m01: f32,
@@ -14,7 +14,8 @@ pub struct Matrix2 {
     pub m11: f32,
 }
 
-#[derive(Drop)]
+// The air's velocity, to where the wind blows, and its covariance.
+#[derive(Clone, Copy)]
 pub struct WindEstimate {
     pub velocity_mps: Vec2,
     pub covariance_m2ps2: Matrix2,
@@ -56,8 +57,8 @@ impl WindEstimate {
         }
     }
 
-    // One measurement of the wind along an axis. Outside the gate, or with a variance that is not
-    // finite, it changes nothing.
+    // One measurement of the wind along an axis. Outside the gate, or with an innovation that is a NaN
+    // or a variance that is not finite, it changes nothing.
     pub fn correct(
         self,
         axis: Vec2,
@@ -90,7 +91,8 @@ impl WindEstimate {
         }
     }
 
-    // The estimate after a measurement that is taken.
+    // The estimate after a measurement that is taken. The covariance is made symmetric against
+    // rounding.
     fn corrected(self, along: Vec2, innovation: f32, innovation_variance: f32) -> WindEstimate
         ensures { result ≡ corrected self along innovation innovation_variance }
     {
@@ -111,7 +113,7 @@ impl WindEstimate {
         }
     }
 
-    // The deviation along a direction.
+    // The wind's deviation along a horizontal direction of length 1, in m/s.
     pub fn sd_along_mps(self, direction: Vec2) -> f32
         ensures { result ≡ sd_along self direction }
     {

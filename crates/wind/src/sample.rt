@@ -1,18 +1,16 @@
 // What one call tells of the air: the specific force and the ground velocity along the thrust frame's
-// axes, and those axes.
+// axes, and the horizontal parts of those axes.
 ghost use Rattle.std.specs.Prelude.{◌≡◌};
 ghost use Rattle.wind.specs.Sample.{rotation, body_axes, dot3, along, specific_force_ned, sample_finite, from_state};
 
 use crate::state::VehicleState;
+use math::GRAVITY;
 use math::vectors::{Quaternion, Vec2, Vec3};
-
-// Standard gravity, in m/s².
-pub const GRAVITY: f32 = 9.80665;
 
 // Cosine of the most tilt that a sample is taken at, 45 degrees: the root of a half.
 const MIN_TILT_COSINE: f32 = 0.70710677;
 
-#[derive(Drop)]
+#[derive(Clone, Copy)]
 pub struct Sample {
     pub specific_force_mps2: Vec2,
     pub ground_along_mps: Vec2,
@@ -22,15 +20,15 @@ pub struct Sample {
 }
 
 // A sample that is taken, or none.
-#[derive(Drop)]
+#[derive(Clone, Copy)]
 pub enum Sampled {
     Nothing,
     Taken(Sample),
 }
 
 // The body's axes, each as north, east and down.
-#[derive(Drop)]
-pub struct BodyAxes {
+#[derive(Clone, Copy)]
+struct BodyAxes {
     pub x: Vec3,
     pub y: Vec3,
     pub z: Vec3,
@@ -103,8 +101,8 @@ fn specific_force_ned(a: Vec3) -> Vec3
 }
 
 impl Sample {
-    // None where the craft is tilted too far or too fast along the thrust axis, or a number is not
-    // finite.
+    // None where the craft is tilted too far or too fast along the thrust axis, or a number of the
+    // sample is not finite. A NaN passes the first two tests, and fails the last.
     pub fn from_state(state: VehicleState, max_axial_speed_mps: f32) -> Sampled
         ensures { result ≡ from_state state max_axial_speed_mps }
     {

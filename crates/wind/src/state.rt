@@ -3,7 +3,7 @@ use math::vectors::{Quaternion, Vec3};
 
 // Position, velocity and acceleration north, east and up; the attitude rotates the body's axes to
 // north, east and down.
-#[derive(Drop)]
+#[derive(Clone, Copy)]
 pub struct VehicleState {
     pub position_m: Vec3,
     pub velocity_mps: Vec3,

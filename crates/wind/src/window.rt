@@ -1,6 +1,7 @@
 // The estimator: samples are averaged over a window of 0.2 s before each update.
 ghost use Rattle.std.specs.Prelude.{◌≡◌};
-ghost use Rattle.wind.specs.Wind.{empty, fresh, filter_or, grown, mean, noise, axis_corrected, closed, gathered, update};
+ghost use Rattle.wind.specs.Wind.{empty, fresh, filter_or, grown, mean, axis_corrected, closed, gathered, update};
+ghost use Rattle.wind.specs.Inner.{noise_by_slope};
 
 use crate::drag::{AirVelocity, AxisDrag, WindConfig};
 use crate::estimate::WindEstimate;
@@ -9,13 +10,13 @@ use crate::state::VehicleState;
 use math::vectors::Vec2;
 
 // Seconds that the samples are averaged over before each update.
-pub const UPDATE_PERIOD_S: f32 = 0.2;
+const UPDATE_PERIOD_S: f32 = 0.2;
 
 // Least drag slope, in 1/s, that an axis's noise is divided by.
 const MIN_DRAG_SLOPE_PER_S: f32 = 0.001;
 
-// The sums over the samples taken since the last update.
-#[derive(Drop)]
+// The sums over the samples taken since the last window closed.
+#[derive(Clone, Copy)]
 pub struct Window {
     pub elapsed_s: f32,
     pub ticks: u32,
@@ -27,20 +28,20 @@ pub struct Window {
 }
 
 // The filter's estimate; none before the first window has closed.
-#[derive(Drop)]
+#[derive(Clone, Copy)]
 pub enum Filter {
     Nothing,
     Estimate(WindEstimate),
 }
 
-#[derive(Drop)]
+#[derive(Clone, Copy)]
 pub struct WindEstimator {
     pub filter: Filter,
     pub window: Window,
 }
 
 impl Window {
-    pub fn empty() -> Window
+    fn empty() -> Window
         ensures { result ≡ empty }
     {
         Window {
@@ -55,7 +56,7 @@ impl Window {
     }
 
     // With one sample more.
-    pub fn grown(self, dt: f32, sample: Sample) -> Window
+    fn grown(self, dt: f32, sample: Sample) -> Window
         ensures { result ≡ grown self dt sample }
     {
         let force = self.specific_force_mps2;
@@ -102,7 +103,8 @@ impl WindEstimator {
         }
     }
 
-    // Takes in the state of one call.
+    // Takes in the state of one call. With no drag coefficient, or where the state gives no sample,
+    // nothing changes.
     pub fn update(self, dt: f32, config: WindConfig, state: VehicleState) -> WindEstimator
         ensures { result ≡ update self dt config state }
     {
@@ -183,8 +185,8 @@ fn closed(filter: Filter, config: WindConfig, window: Window) -> WindEstimate
 }
 
 // A window's means along one axis.
-#[derive(Drop)]
-pub struct Measured {
+#[derive(Clone, Copy)]
+struct Measured {
     pub force_mps2: f32,
     pub ground_mps: f32,
     pub axial_mps: f32,
@@ -231,7 +233,7 @@ fn noise(
     slope_per_s: f32,
     axial_mps: f32,
 ) -> f32
-    ensures { result ≡ noise force_noise_mps2 drag predicted_air_mps slope_per_s axial_mps }
+    ensures { result ≡ noise_by_slope force_noise_mps2 drag predicted_air_mps slope_per_s axial_mps }
 {
     let steeper_per_s = floats::minmax::max(
         drag.slope_per_s(predicted_air_mps, axial_mps),

@@ -1,10 +1,13 @@
--- The integral of altitude control is a number within its limit, from a fresh memory over any calls whose time steps are finite. Assumes nothing.
+-- The integral of altitude control goes on from the last call while the error is within the band, and from a fresh memory over any calls whose time steps
+-- are finite it is a number within its limit. Assumes nothing.
+use mathlib.Core.Path.{◌≡◌}
 use mathlib.Core.List.{List, foldl}
 use lib.Dec.{T}
 use lib.Ieee.{Float, binary32, lt}
+use lib.Ieee.Bits.{is_true}
 use lib.Ieee.Fits.{and_l}
 use lib.Ieee.Scale.{finite}
-use Rattle.floats.specs.Ops.{◌⊖◌, ◌⊗◌}
+use Rattle.floats.specs.Ops.{◌⊕◌, ◌⊖◌, ◌⊗◌}
 use Rattle.floats.specs.Compare.{abs}
 use Rattle.floats.proofs.Laws.Order.{number}
 use Rattle.floats.proofs.Laws.Product.{mul_number}
@@ -16,10 +19,19 @@ use Rattle.altitude.specs.declared.AltitudeEstimate.{AltitudeEstimate}
 use Rattle.altitude.specs.declared.AltitudeController.{AltitudeController}
 use Rattle.altitude.specs.declared.AltitudeControl.{AltitudeControl}
 use Rattle.altitude.specs.Altitude.{fresh, integrated, control}
-use Rattle.altitude.proofs.Laws.Cases.{cond_holds}
-use Rattle.altitude.proofs.Laws.Feed.{kept_by_calls}
+use Rattle.math.proofs.Laws.Cases.{cond_holds}
+use Rattle.math.proofs.Laws.Feed.{kept_by_calls}
 use Rattle.altitude.proofs.Laws.NotFinite.{finite_errors}
-use Rattle.altitude.proofs.Laws.Within.{Within, within→number, zero_within, clamped_within, sum_clamped_within}
+use Rattle.controllers.proofs.Laws.Within.{Within, within→number, zero_within, clamped_within, sum_clamped_within}
+
+pub integral_goes_on : (self : AltitudeController) (config : AltitudeControllerConfig) (dt : Float) (target : AltitudeTarget) (estimate : AltitudeEstimate)
+    → T (finite_errors target estimate)
+    → T (lt (abs (target.altitude_m ⊖ estimate.altitude_m)) config.integration_band_m)
+    → (control self config dt target estimate).controller.integrated_error
+    ≡ clamp_symmetric (self.integrated_error ⊕ (target.altitude_m ⊖ estimate.altitude_m) ⊗ dt) config.max_integral
+unfolding control integrated
+integral_goes_on self config dt target estimate finite_call near =
+    rw (is_true (finite_errors target estimate) finite_call, is_true (lt (abs (target.altitude_m ⊖ estimate.altitude_m)) config.integration_band_m) near)
 
 -- A call of the controller with a finite time step: an infinite time step times an error of 0 would be a NaN.
 pub record Call : Type 0 where
@@ -36,7 +48,8 @@ module _ (config : AltitudeControllerConfig) (allowed : T (check_limit config.ma
   unfolding fresh
   fresh_within = zero_within max_integral allowed
 
-  pub integrated_within : (dt error integral : Float) → T (finite dt) → T (finite error) → Within max_integral integral → Within max_integral (integrated config dt error integral)
+  pub integrated_within : (dt error integral : Float) → T (finite dt) → T (finite error) → Within max_integral integral
+      → Within max_integral (integrated config dt error integral)
   unfolding integrated
   integrated_within dt error integral d e w =
       cond_holds (λ (x : Float). Within max_integral (clamp_symmetric x max_integral)) (lt (abs error) config.integration_band_m)

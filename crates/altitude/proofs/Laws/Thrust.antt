@@ -1,4 +1,4 @@
--- The thrust of altitude control is a NaN or in [0, 1], and it can be a NaN. Assumes nothing.
+-- The thrust of altitude control can be a NaN, and is a NaN or in [0, 1] with a hover thrust that a configuration may have. Assumes nothing.
 use mathlib.Core.Path.{◌≡◌, refl}
 use mathlib.Core.Logic.{◌⊎◌, inl, inr}
 use lib.Dec.{T}
@@ -17,8 +17,23 @@ use Rattle.altitude.specs.declared.AltitudeEstimate.{AltitudeEstimate}
 use Rattle.altitude.specs.declared.AltitudeController.{AltitudeController}
 use Rattle.altitude.specs.declared.AltitudeControl.{AltitudeControl}
 use Rattle.altitude.specs.Altitude.{thrust, control}
-use Rattle.altitude.proofs.Laws.Cases.{cond_holds}
+use Rattle.math.proofs.Laws.Cases.{cond_holds}
 use Rattle.altitude.proofs.Laws.NotFinite.{finite_errors}
+
+-- A NaN is reached from finite numbers, and the clamp keeps it: gains p and d of 3e38 (7F61B1E6), altitude target 5 at altitude 3, climb 5.
+pub nan_thrust_of_finite_input : (self : AltitudeController) (dt i max_integral band : Float) (attitude : Quaternion)
+    → (control self
+    (record {
+      gains = record { p = f32 0x7F61_B1E6; i = i; d = f32 0x7F61_B1E6 };
+      max_integral = max_integral;
+      hover_thrust = half;
+      integration_band_m = band;
+    })
+    dt (record { altitude_m = f32 0x40A0_0000; velocity_mps = zero })
+    (record { altitude_m = f32 0x4040_0000; velocity_mps = f32 0x40A0_0000; attitude = attitude })).thrust
+    ≡ nan
+unfolding control thrust clamp of_bits sub add mul div lt
+nan_thrust_of_finite_input self dt i max_integral band attitude = refl
 
 abbrev pub NanOrUnit : Float → Type 0
 NanOrUnit x = (x ≡ nan) ⊎ (T (le zero x) × T (le x one))
@@ -35,18 +50,3 @@ thrust_nan_or_unit self config dt target estimate h =
     cond_holds (λ (r : AltitudeControl). NanOrUnit r.thrust) (finite_errors target estimate)
     (λ _. clamp_nan_or_unit _)
     (λ _. inr (lt→le zero config.hover_thrust hover.0, hover.1))
-
--- The NaN is reached from finite numbers, and the clamp keeps it: gains p and d of 3e38 (7F61B1E6), altitude target 5 at altitude 3, climb 5.
-pub nan_thrust_of_finite_input : (self : AltitudeController) (dt i max_integral band : Float) (attitude : Quaternion)
-    → (control self
-    (record {
-      gains = record { p = f32 0x7F61_B1E6; i = i; d = f32 0x7F61_B1E6 };
-      max_integral = max_integral;
-      hover_thrust = half;
-      integration_band_m = band;
-    })
-    dt (record { altitude_m = f32 0x40A0_0000; velocity_mps = zero })
-    (record { altitude_m = f32 0x4040_0000; velocity_mps = f32 0x40A0_0000; attitude = attitude })).thrust
-    ≡ nan
-unfolding control thrust clamp of_bits sub add mul div lt
-nan_thrust_of_finite_input self dt i max_integral band attitude = refl

@@ -5,8 +5,7 @@ use lib.Ieee.{Float, lt, le}
 use lib.Ieee.Scale.{finite}
 use lib.Ieee.Fits.{and_i, and_l, and_r}
 use mathlib.Core.Bool.{Bool, ◌&&◌}
-use Rattle.floats.specs.Ops.{f32}
-use Rattle.math.specs.Math.{zero, one}
+use Rattle.math.specs.Math.{zero, one, half_pi}
 use Rattle.controllers.specs.Checks.{check_limit, check_positive, check_unit_interval, check_tilt}
 
 both : (a b : Bool) → T (a && b) ↔ T a × T b
@@ -24,7 +23,6 @@ pub unit_interval_is_above_zero_to_one : (value : Float) → T (check_unit_inter
 unfolding check_unit_interval
 unit_interval_is_above_zero_to_one value = both (lt zero value) (le value one)
 
--- 3FC90FDB is π/2.
-pub tilt_is_above_zero_below_half_pi : (value : Float) → T (check_tilt value) ↔ T (lt zero value) × T (lt value (f32 0x3FC9_0FDB))
+pub tilt_is_above_zero_below_half_pi : (value : Float) → T (check_tilt value) ↔ T (lt zero value) × T (lt value half_pi)
 unfolding check_tilt
-tilt_is_above_zero_below_half_pi value = both (lt zero value) (lt value (f32 0x3FC9_0FDB))
+tilt_is_above_zero_below_half_pi value = both (lt zero value) (lt value half_pi)

@@ -6,12 +6,12 @@ use mathlib.Core.Logic.{◌↔◌}
 use Prim.Native.Nat.{ℕ}
 use native.Mathlib.Omega.{arith}
 use lib.Dec.{T}
-use lib.Ieee.{Float, binary32, lt, le, add, sub, mul, of_bits, fits, is_nan}
+use lib.Ieee.{Float, binary32, le, add, sub, mul, of_bits, fits, is_nan}
 use lib.Ieee.Fits.{add-fits}
 use lib.Ieee.Scale.{finite}
 use lib.Ieee.Positive.{positive, between, mul_mono}
 use Rattle.floats.specs.Ops.{f32, ◌⊕◌, ◌⊖◌, ◌⊗◌}
-use Rattle.floats.proofs.Laws.Order.{number, le_numbers, le_refl, le_trans, lt_le_trans, finite_between}
+use Rattle.floats.proofs.Laws.Order.{number, le_numbers, float_le_refl, float_le_trans, finite_between}
 use Rattle.floats.proofs.Laws.Sum.{add_mono, sub_mono, sub_numbers, number_add, number_sub, add_nonneg_number, le_add}
 use Rattle.math.specs.Math.{zero, half, one}
 use Rattle.controllers.specs.declared.rate_divider.RateDivider.{RateDivider}
@@ -24,10 +24,6 @@ use Rattle.controllers.specs.RateDivider.{due, ran, shortest, longest, Accepted,
 pub first_call_due : (dt period : Float) → due NeverRan dt period ≡ record { divider = NeverRan; due = Step dt }
 unfolding due
 first_call_due dt period = refl
-
-pub elapsed_grows : (before dt period : Float) → (due (Elapsed before) dt period).divider ≡ Elapsed (before ⊕ dt)
-unfolding due
-elapsed_grows before dt period = refl
 
 never_both : (t : Float) → NotYet ≡ Step t → ⊥
 never_both t p = let z : ◌≡◌ {A = ℕ} 0 1 = cc in omega arith
@@ -48,12 +44,7 @@ later_call_due before dt period t = step_by_test (le (period ⊖ half ⊗ dt) (b
 
 pub accepted→legal : (dt : Float) → Accepted dt → Legal dt
 unfolding le of_bits
-accepted→legal dt a = (a.0, le_trans dt one longest a.1 tt)
-
--- a legal step is positive and finite
-pub legal_positive : (t : Float) → Legal t → T (lt zero t)
-unfolding lt of_bits
-legal_positive t l = lt_le_trans zero shortest t tt l.0
+accepted→legal dt a = (a.at_least, float_le_trans dt one longest a.at_most tt)
 
 pub legal_finite : (t : Float) → Legal t → T (finite t)
 unfolding of_bits
@@ -65,9 +56,9 @@ legal_finite t l = finite_between shortest t longest tt tt l.0 l.1
 legal_sum : (before dt : Float) → Bounded (Elapsed before) → Accepted dt → Legal (before ⊕ dt)
 unfolding le of_bits add is_nan
 legal_sum before dt b a =
-    let d : T (le zero dt) = le_trans zero shortest dt tt a.0 in
+    let d : T (le zero dt) = float_le_trans zero shortest dt tt a.at_least in
     let n : T (number (before ⊕ dt)) = add_nonneg_number binary32 before dt b.0 d in
-    (add_mono binary32 zero before shortest dt b.0 a.0 tt n, add_mono binary32 before longest dt one b.1 a.1 n tt)
+    (add_mono binary32 zero before shortest dt b.0 a.at_least tt n, add_mono binary32 before longest dt one b.1 a.at_most n tt)
 
 pub ran_bounded : Bounded ran
 unfolding le of_bits
@@ -77,39 +68,23 @@ pub due_keeps_bound : (d : RateDivider) (dt period : Float) → Bounded d → Ac
 unfolding due le of_bits
 due_keeps_bound NeverRan dt period b a = tt
 due_keeps_bound (Elapsed before) dt period b a =
-    let l = legal_sum before dt b a in (le_trans zero shortest (before ⊕ dt) tt l.0, l.1)
+    let l = legal_sum before dt b a in (float_le_trans zero shortest (before ⊕ dt) tt l.0, l.1)
 
 pub step_is_legal : (d : RateDivider) (dt period t : Float) → Bounded d → Accepted dt → (due d dt period).due ≡ Step t → Legal t
 unfolding due
 step_is_legal NeverRan dt period t b a e = subst Legal (step_same dt t e) (accepted→legal dt a)
 step_is_legal (Elapsed before) dt period t b a e = subst Legal ((later_call_due before dt period t).0 e).1 (legal_sum before dt b a)
 
--- ---- any number of calls
-
--- the dividers that accepted steps lead to from one that never ran, whatever the periods, with runs and resets in between
-pub data Reached : RateDivider → Type 0 where
-  never_ran : Reached NeverRan
-  ran_now : Reached ran
-  stepped : {d : RateDivider} (dt period : Float) → Accepted dt → Reached d → Reached (due d dt period).divider
-
-pub elapsed_bounded : {d : RateDivider} → Reached d → Bounded d
-elapsed_bounded never_ran = tt
-elapsed_bounded ran_now = ran_bounded
-elapsed_bounded (stepped {d = d} dt period a r) = due_keeps_bound d dt period (elapsed_bounded r) a
-
-pub reached_step_is_legal : {d : RateDivider} → Reached d → (dt period t : Float) → Accepted dt → (due d dt period).due ≡ Step t → Legal t
-reached_step_is_legal {d} r dt period t a e = step_is_legal d dt period t (elapsed_bounded r) a e
-
 -- ---- a call that was due and did not run
 
 half_step : (dt dt' : Float) → Accepted dt → Accepted dt' → T (le dt dt') → T (le (half ⊗ dt) (half ⊗ dt')) × T (finite (half ⊗ dt'))
 unfolding le mul of_bits
 half_step dt dt' a a' h =
-    let p : T (positive dt) = between shortest dt one tt tt a.0 a.1 in
-    let p' : T (positive dt') = between shortest dt' one tt tt a'.0 a'.1 in (
+    let p : T (positive dt) = between shortest dt one tt tt a.at_least a.at_most in
+    let p' : T (positive dt') = between shortest dt' one tt tt a'.at_least a'.at_most in (
       mul_mono binary32 half half dt dt' tt tt p p' tt h,
       finite_between (half ⊗ shortest) (half ⊗ dt') (half ⊗ one) tt tt
-          (mul_mono binary32 half half shortest dt' tt tt tt p' tt a'.0) (mul_mono binary32 half half dt' one tt tt p' tt tt a'.1),
+          (mul_mono binary32 half half shortest dt' tt tt tt p' tt a'.at_least) (mul_mono binary32 half half dt' one tt tt p' tt tt a'.at_most),
     )
 
 waits_longer : (w dt dt' period : Float) → Accepted dt → Accepted dt' → T (le dt dt') → T (fits binary32 w) → T (le (period ⊖ half ⊗ dt) w)
@@ -120,9 +95,9 @@ waits_longer w dt dt' period a a' h f k =
     let p : T (number period) = (sub_numbers binary32 period (half ⊗ dt) n.0).0 in
     let s = half_step dt dt' a a' h in
     let d : T (finite dt') = legal_finite dt' (accepted→legal dt' a') in (
-      le_trans (period ⊖ half ⊗ dt') (period ⊖ half ⊗ dt) w
-          (sub_mono binary32 period period (half ⊗ dt') (half ⊗ dt) (le_refl period p) s.0 (number_sub binary32 period (half ⊗ dt') p s.1) n.0) k,
-      le_add binary32 w dt' f (le_trans zero shortest dt' tt a'.0)
+      float_le_trans (period ⊖ half ⊗ dt') (period ⊖ half ⊗ dt) w
+          (sub_mono binary32 period period (half ⊗ dt') (half ⊗ dt) (float_le_refl period p) s.0 (number_sub binary32 period (half ⊗ dt') p s.1) n.0) k,
+      le_add binary32 w dt' f (float_le_trans zero shortest dt' tt a'.at_least)
           (number_add binary32 w dt' n.1 d),
     )
 
@@ -136,7 +111,7 @@ stays_due (Elapsed before) dt dt' period t a a' h e =
     let k = (later_call_due before dt period t).0 e in
     let l = waits_longer w dt dt' period a a' h (add-fits binary32 before dt) k.0 in (
       w ⊕ dt',
-      (later_call_due w dt' period (w ⊕ dt')).1 (le_trans (period ⊖ half ⊗ dt') w (w ⊕ dt') l.0 l.1, refl),
+      (later_call_due w dt' period (w ⊕ dt')).1 (float_le_trans (period ⊖ half ⊗ dt') w (w ⊕ dt') l.0 l.1, refl),
       subst
           (λ (z : Float). T (le z (w ⊕ dt'))) k.1 l.1,
     )

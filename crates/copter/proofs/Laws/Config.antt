@@ -1,5 +1,5 @@
 -- The fields of a configuration are those of document 01's order, by number and by name: `config_back`, `kept_is_valid`. The defaults keep all
--- rules. Which numbers the rules of this layer take; those of the checks of the layer below are in its laws. Assumes nothing.
+-- rules, and are the Rust's by name. Which numbers the rules of this layer take; those of the checks of the layer below are in its laws. Assumes nothing.
 use Prim.Native.Nat.{ℕ, zero, suc, ◌+◌, ◌≤◌, ◌<◌}
 use mathlib.Core.Path.{◌≡◌, refl, subst}
 use mathlib.Core.Bool.{Bool, true, false, ◌&&◌}
@@ -17,7 +17,7 @@ use Rattle.math.specs.Math as math
 use Rattle.controllers.specs.Checks.{check_limit, check_positive, check_unit_interval, check_tilt}
 use Rattle.copter.specs.declared.config.CopterGuidanceConfig.{CopterGuidanceConfig}
 use Rattle.copter.specs.Config.{below_one, above_descending, up_to_pi, keeps, fields, field_count, defaults, nth, rule, lowest, config_of}
-use Rattle.copter.specs.Config.{fields_of, Valid}
+use Rattle.copter.specs.Config.{default_config, fields_of, Valid}
 
 -- ---- the fields by number and by name
 
@@ -148,13 +148,71 @@ pub above_descending_is_above_touchdown : (value : Float) → T (above_descendin
 unfolding above_descending
 above_descending_is_above_touchdown value = both (lt (f32 0x3E4C_CCCD) value) (finite value)
 
-pub up_to_pi_is_zero_to_pi : (value : Float) → T (up_to_pi value) ↔ T (le math.zero value) × T (le value math.pi)
-unfolding up_to_pi
-up_to_pi_is_zero_to_pi value = both (le math.zero value) (le value math.pi)
-
 -- ---- the defaults
 
 -- The search for a field that breaks its rule ends past the last.
 pub defaults_keep_rules : lowest defaults 1 field_count ≡ suc field_count
 unfolding lowest rule defaults check_limit check_positive check_unit_interval check_tilt below_one above_descending up_to_pi of_bits lt le
 defaults_keep_rules = refl
+
+-- The defaults of the Rust, as its text names them, by their bits.
+pub defaults_by_name : default_config
+    ≡ record {
+      altitude = record {
+        gains = record { p = f32 0x3FC0_0000; i = f32 0x3E4C_CCCD; d = f32 0x4000_0000 };
+        max_integral = f32 0x40A0_0000;
+        hover_thrust = f32 0x3F00_0000;
+        integration_band_m = f32 0x3F80_0000;
+      };
+      lateral = record {
+        position_p = f32 0x3F00_0000;
+        velocity = record { p = f32 0x3FA1_47AE; i = f32 0x3ECC_CCCD; d = f32 0 };
+        max_integral = f32 0x4148_0000;
+        max_accel_mps2 = f32 0;
+        brake_mps2 = f32 0;
+        braking_share = f32 0x3F33_3333;
+      };
+      guidance = record {
+        navigation_period_s = f32 0x3CA3_D70A;
+        max_stick_angles_rad = record { x = f32 0x3F49_0FDB; y = f32 0x3F49_0FDB };
+        stick_yaw_rate_radps = f32 0x3F80_0000;
+        idle_throttle = f32 0x3D4C_CCCD;
+        max_tilt_rad = f32 0x3EF1_4639;
+        max_descent_mps = f32 0x4040_0000;
+        descent_accel_mps2 = f32 0x3F80_0000;
+        climb_decel_mps2 = f32 0x4020_0000;
+        altitude_leash_m = f32 0x3F80_0000;
+        land_speed_mps = f32 0x3F33_3333;
+        heading = record {
+          waypoint_yaw_radps = f32 0x3F86_0A92;
+          heading_rate_radps = f32 0x3F86_0A92;
+          waypoint_yaw_min_leg_m = f32 0x4040_0000;
+          heading_yield_rad = f32 0x3F06_0A92;
+          heading_yield_rate_radps = f32 0x3DCC_CCCD;
+          heading_yield_s = f32 0x3F80_0000;
+          wind_heading_min_mps = f32 0;
+          wind_heading_from_wind_rad = f32 0x3FB2_B8C2;
+          wind_heading_max_sd_rad = f32 0x3E86_0A92;
+          wind_heading_deadband_rad = f32 0x3E32_B8C2;
+        };
+        airborne_height_m = f32 0x3F80_0000;
+        feedforward_hold_band_mps = f32 0x3E99_999A;
+      };
+      thrust = record {
+        min_thrust = f32 0;
+        sink_limit_mps = f32 0;
+        sink_gain = f32 0;
+        max_boost_thrust = f32 0x3F80_0000;
+      };
+      wind = record {
+        ballistic_kgpm2 = record { x = f32 0; y = f32 0 };
+        momentum_per_s = record { x = f32 0; y = f32 0 };
+        force_noise_mps2 = f32 0x3F00_0000;
+        process_noise_mps_per_rt_s = f32 0x3DCC_CCCD;
+        initial_sd_mps = f32 0x4120_0000;
+        gate_sigma = f32 0x40A0_0000;
+        max_axial_speed_mps = f32 0x3F80_0000;
+      };
+    }
+unfolding default_config config_of defaults fields
+defaults_by_name = refl

@@ -8,11 +8,11 @@ use lib.Ieee.Bits.{is_false}
 use lib.Ieee.Scale.{finite}
 use Rattle.floats.specs.Ops.{f32, ◌⊖◌, ◌⊗◌}
 use Rattle.floats.specs.MinMax.{min}
-use Rattle.floats.proofs.Laws.Order.{number, finite→number, le_numbers, lt→le, le_trans, neg_neg}
+use Rattle.floats.proofs.Laws.Order.{number, finite→number, le_numbers, lt→le, float_le_trans, neg_neg}
 use Rattle.floats.proofs.Laws.MinMax.{min_le_left, min_le_right}
 use Rattle.math.specs.Math.{zero, shaped_closing_speed}
 use Rattle.altitude.specs.declared.AltitudeTarget.{AltitudeTarget}
-use Rattle.altitude.proofs.Laws.Cases.{cond_holds}
+use Rattle.math.proofs.Laws.Cases.{cond_holds}
 use Rattle.copter.specs.declared.config.CopterGuidanceConfig.{CopterGuidanceConfig}
 use Rattle.copter.specs.declared.memory.AltitudeHold.{AltitudeHold}
 use Rattle.copter.specs.declared.memory.AltitudeHold.TheVariants.{Nothing}
@@ -23,7 +23,7 @@ use Rattle.copter.specs.declared.descent.Descended.{Descended}
 use Rattle.controllers.specs.Checks.{check_positive}
 use Rattle.controllers.proofs.Laws.Checks.{positive_is_above_zero_and_finite}
 use Rattle.copter.specs.Config.{above_descending}
-use Rattle.copter.specs.Descent.{lowered, descent_start, ramped, descent_rate, finite_height, level_at}
+use Rattle.copter.specs.Descent.{lowered, descent_start, ramped_descent, descent_rate, finite_height, level_at}
 use Rattle.copter.specs.Descent.{toward, descended_from, descend_toward, landing, landed_from, land_descent}
 use Rattle.copter.specs.Calls.{NoneOrFinite}
 use Rattle.copter.proofs.Laws.Config.{above_descending_is_above_touchdown}
@@ -49,7 +49,7 @@ module _ (config : CopterGuidanceConfig) (dt : Float) where
   unfolding landed_from
   landed_is_finite Unknown speed altitude = tt
   landed_is_finite (From from) speed altitude =
-      let rate = ramped config dt config.guidance.land_speed_mps from.speed_mps in
+      let rate = ramped_descent config dt config.guidance.land_speed_mps from.speed_mps in
       landing_is_finite (lowered from.start_m (rate ⊗ dt) altitude config.guidance.altitude_leash_m) rate
 
   module _ (hold : AltitudeHold) (speed altitude climb : Float) where
@@ -73,7 +73,7 @@ module _ (config : CopterGuidanceConfig) (dt speed altitude climb : Float) (unkn
 
   pub land_has_nan_target : land_descent config dt Nothing speed altitude climb
       ≡ record {
-        target = record { altitude_m = nan; velocity_mps = neg (ramped config dt config.guidance.land_speed_mps speed) };
+        target = record { altitude_m = nan; velocity_mps = neg (ramped_descent config dt config.guidance.land_speed_mps speed) };
         hold = Nothing;
         speed_mps = zero;
       }
@@ -85,11 +85,12 @@ module _ (config : CopterGuidanceConfig) (dt speed altitude climb : Float) (unkn
 -- -0.0, which is the speed of a level target
 level_speed_below : (limit : Float) → T (lt zero limit) → T (le (neg zero) limit)
 unfolding neg of_bits lt eq le
-level_speed_below limit h = le_trans (neg zero) zero limit tt (lt→le zero limit h)
+level_speed_below limit h = float_le_trans (neg zero) zero limit tt (lt→le zero limit h)
 
-pub ramped_at_most_limit : (config : CopterGuidanceConfig) (dt limit speed : Float) → T (number limit) → T (le (ramped config dt limit speed) limit)
-unfolding ramped
-ramped_at_most_limit config dt limit speed n = min_le_left limit _ n
+pub ramped_descent_at_most_limit : (config : CopterGuidanceConfig) (dt limit speed : Float) → T (number limit)
+    → T (le (ramped_descent config dt limit speed) limit)
+unfolding ramped_descent
+ramped_descent_at_most_limit config dt limit speed n = min_le_left limit _ n
 
 module _ (config : CopterGuidanceConfig) (kept : T (check_positive config.guidance.max_descent_mps)) where
   abbrev limit : Float
@@ -109,13 +110,13 @@ module _ (config : CopterGuidanceConfig) (kept : T (check_positive config.guidan
   slower_at_most_limit height rate =
       let bound = rate_at_most_limit height in
       let own = descent_rate config height in
-      le_trans (min own rate) own limit (min_le_left own rate (le_numbers own limit bound).0) bound
+      float_le_trans (min own rate) own limit (min_le_left own rate (le_numbers own limit bound).0) bound
 
   toward_at_most_limit : (dt waypoint altitude : Float) (from : Descent)
       → T (le (neg (toward config dt waypoint altitude from).velocity_mps) limit)
   unfolding toward
   toward_at_most_limit dt waypoint altitude from =
-      let rate = ramped config dt (descent_rate config (from.start_m ⊖ waypoint)) from.speed_mps in
+      let rate = ramped_descent config dt (descent_rate config (from.start_m ⊖ waypoint)) from.speed_mps in
       let step = lowered from.start_m (rate ⊗ dt) altitude config.guidance.altitude_leash_m in
       cond_holds (λ (t : AltitudeTarget). T (le (neg t.velocity_mps) limit)) (lt waypoint step)
       (λ _. rw (neg_neg (min (descent_rate config (step ⊖ waypoint)) rate)) (slower_at_most_limit (step ⊖ waypoint) rate))
@@ -141,7 +142,7 @@ module _ (config : CopterGuidanceConfig) (kept : T (above_descending config.guid
   rest_at_most_land_speed : T (le zero land_speed)
   unfolding of_bits lt eq le
   rest_at_most_land_speed =
-      le_trans zero (f32 0x3E4C_CCCD) land_speed tt (lt→le (f32 0x3E4C_CCCD) land_speed ((above_descending_is_above_touchdown land_speed).0 kept).0)
+      float_le_trans zero (f32 0x3E4C_CCCD) land_speed tt (lt→le (f32 0x3E4C_CCCD) land_speed ((above_descending_is_above_touchdown land_speed).0 kept).0)
 
   landing_at_most_land_speed : (height rate : Float) → T (le rate land_speed) → T (le (landing height rate).speed_mps land_speed)
   unfolding landing
@@ -153,9 +154,9 @@ module _ (config : CopterGuidanceConfig) (kept : T (above_descending config.guid
   unfolding landed_from
   landed_at_most_land_speed Unknown dt speed altitude = rest_at_most_land_speed
   landed_at_most_land_speed (From from) dt speed altitude =
-      let rate = ramped config dt land_speed from.speed_mps in
+      let rate = ramped_descent config dt land_speed from.speed_mps in
       landing_at_most_land_speed (lowered from.start_m (rate ⊗ dt) altitude config.guidance.altitude_leash_m) rate
-      (ramped_at_most_limit config dt land_speed from.speed_mps (finite→number land_speed ((above_descending_is_above_touchdown land_speed).0 kept).1))
+      (ramped_descent_at_most_limit config dt land_speed from.speed_mps (finite→number land_speed ((above_descending_is_above_touchdown land_speed).0 kept).1))
 
   -- at most field 25
   pub land_speed_capped : (dt : Float) (hold : AltitudeHold) (speed altitude climb : Float)

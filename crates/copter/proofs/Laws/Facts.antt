@@ -7,8 +7,8 @@ use lib.Ieee.{Float, binary32, nan, neg, fits}
 use Rattle.math.specs.Math.{zero}
 use Rattle.controllers.specs.RateDivider.{Accepted}
 use Rattle.altitude.specs.declared.AltitudeTarget.{AltitudeTarget}
-use Rattle.altitude.proofs.Laws.Cases.{cond_holds}
-use Rattle.altitude.proofs.Laws.Within.{Within, within→number}
+use Rattle.math.proofs.Laws.Cases.{cond_holds}
+use Rattle.controllers.proofs.Laws.Within.{Within, within→number}
 use Rattle.wind.specs.declared.state.VehicleState.{VehicleState}
 use Rattle.wind.specs.Window.{Updated, unchanged}
 use Rattle.wind.proofs.Laws.Window.{update_cases}
@@ -24,8 +24,8 @@ use Rattle.copter.specs.declared.memory.AltitudeHold.TheVariants as hold
 use Rattle.copter.specs.declared.memory.CopterGuidance.{CopterGuidance}
 use Rattle.copter.specs.declared.descent.Descended.{Descended}
 use Rattle.copter.specs.declared.tilt.Course.{Course}
-use Rattle.copter.specs.Descent.{ramped, level_at}
-use Rattle.copter.specs.Guide.{wind_updated, navigated_thrust, climb, piloted, fly_to}
+use Rattle.copter.specs.Descent.{ramped_descent, level_at}
+use Rattle.copter.specs.Guide.{wind_updated, navigated_thrust, altitude_control, piloted, fly_to}
 use Rattle.copter.specs.Guide.{attitude_call, absolute_attitude_call, absolute_rate_call, waypoint_call, land_call, guide_call}
 use Rattle.copter.specs.Calls.{WithinLimit, EachCraft, NanOrFrom, NoAltitude, Holds, waypoint_course, land_course}
 use Rattle.copter.specs.Calls.{WaypointCall, LandCall, ByCommand, EachCall}
@@ -35,7 +35,7 @@ use Rattle.copter.proofs.Laws.Facts.Legs.{waypoint_legs}
 use Rattle.copter.proofs.Laws.Heading.{attitude_heading, absolute_attitude_heading, absolute_rate_heading, waypoint_heading, land_heading}
 use Rattle.copter.proofs.Laws.Navigation.{lateral_call}
 use Rattle.copter.proofs.Laws.Piloted.{piloted_call}
-use Rattle.copter.proofs.Laws.Reached.{Reached, Sound, reached_sound, accepted_step}
+use Rattle.copter.proofs.Laws.Reached.{Reached, Sound, reached_sound}
 use Rattle.copter.proofs.Laws.Thrust.{controlled_nan_or_from_floor}
 use Rattle.copter.proofs.Laws.Wind.{guide_updates_wind, guide_keeps_config}
 
@@ -78,7 +78,7 @@ wind_update_cases self dt state s a =
     let wind = self.memory.wind in
     cond_holds (λ (w : HoverWind). Updated wind.estimator self.config.wind w.estimator)
     (airborne wind self.config.guidance.airborne_height_m state)
-    (λ _. update_cases wind.estimator dt self.config.wind state s.wind.window (accepted_step dt a))
+    (λ _. update_cases wind.estimator dt self.config.wind state s.wind.window a)
     (λ _. unchanged)
 
 module _ (self : CopterGuidance) (dt : Float) (state : VehicleState) where
@@ -99,7 +99,7 @@ module _ (self : CopterGuidance) (dt : Float) (state : VehicleState) where
       n.not_finite command.altitude_m))
 
   land_holds : (command : LandCommand) → NoAltitude self state →
-      let rate = ramped self.config dt self.config.guidance.land_speed_mps self.memory.vertical.descent_speed_mps in
+      let rate = ramped_descent self.config dt self.config.guidance.land_speed_mps self.memory.vertical.descent_speed_mps in
       Holds self dt state (record { altitude_m = nan; velocity_mps = neg rate }) (land_call self dt state command)
   unfolding land_call
   land_holds command n =
@@ -111,8 +111,8 @@ module _ (self : CopterGuidance) (dt : Float) (state : VehicleState) where
   module _ (s : Sound self) (a : Accepted dt) (q : T (fits binary32 state.heading_rad)) where
     navigated_thrust_from_floor : (target : AltitudeTarget)
         → NanOrFrom self.config.thrust.min_thrust
-        (navigated_thrust (climb self.memory.vertical self.config dt target state).thrust self.config.thrust.min_thrust).value
-    unfolding climb
+        (navigated_thrust (altitude_control self.memory.vertical self.config dt target state).thrust self.config.thrust.min_thrust).value
+    unfolding altitude_control
     navigated_thrust_from_floor target =
         controlled_nan_or_from_floor self.memory.vertical.controller self.config.altitude dt target _ self.config.thrust.min_thrust
         s.valid.hover_thrust s.valid.min_thrust

@@ -8,7 +8,7 @@ use lib.Ieee.{Float}
 use lib.Ieee.Bits.{is_true, is_false}
 use Rattle.math.specs.Vectors.{zeros}
 use Rattle.math.specs.declared.vectors.Vec2.{Vec2}
-use Rattle.math.proofs.Laws.Limits.{by_test}
+use Rattle.math.proofs.Laws.Cases.{by_test}
 use Rattle.controllers.specs.RateDivider.{due, Accepted, Bounded}
 use Rattle.controllers.specs.declared.rate_divider.RateDivider.TheVariants.{NeverRan}
 use Rattle.controllers.specs.declared.rate_divider.Due.TheVariants.{Step, NotYet}

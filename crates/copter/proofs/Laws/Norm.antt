@@ -10,7 +10,7 @@ use lib.Ieee.Bits.{is_true, is_false}
 use lib.Ieee.Fits.{and_l, and_r}
 use Rattle.floats.specs.Ops.{f32}
 use Rattle.math.specs.Vectors.{zeros}
-use Rattle.math.proofs.Laws.Limits.{by_test}
+use Rattle.math.proofs.Laws.Cases.{by_test}
 use Rattle.controllers.specs.declared.rate_divider.RateDivider.{RateDivider}
 use Rattle.controllers.specs.declared.rate_divider.RateDivider.TheVariants.{NeverRan, Elapsed}
 use Rattle.wind.specs.declared.state.VehicleState.{VehicleState}
@@ -27,7 +27,7 @@ use Rattle.copter.specs.declared.descent.Descended.{Descended}
 use Rattle.copter.specs.declared.tilt.Course.{Course}
 use Rattle.copter.specs.declared.tilt.Tilted.{Tilted}
 use Rattle.copter.specs.declared.guide.Guided.{Guided}
-use Rattle.copter.specs.Memory.{level, upright, idled}
+use Rattle.copter.specs.Memory.{fresh_vertical, fresh_lateral, reset_lateral}
 use Rattle.copter.specs.Tilt.{tilt_toward}
 use Rattle.copter.specs.Guide.{wind_updated, piloted, fly_to, waypoint_call, land_call, prime, wind_reading}
 use Rattle.copter.proofs.Laws.Calls.{Piloted, waypoint, land, Call, pilot, guide, course}
@@ -176,28 +176,28 @@ fly_to_from_norm self dt state course descended turn wind =
 
 -- the memory that `CopterGuidance::new` sets, with a heading target and a wind memory
 unfoldable pub fresh_with : Float → HoverWind → Memory
-fresh_with heading wind = record { vertical = level; lateral = upright; heading_rad = heading; leg_heading = leg.fresh; wind = wind }
+fresh_with heading wind = record { vertical = fresh_vertical; lateral = fresh_lateral; heading_rad = heading; leg_heading = leg.fresh; wind = wind }
 
-norm_idled : (self : LateralMemory) → norm_lateral (idled self) ≡ upright
-unfolding idled upright quieted
-norm_idled self = norm_of_reset (idled self) (record { never_ran = refl; no_request = refl })
+norm_reset_lateral : (self : LateralMemory) → norm_lateral (reset_lateral self) ≡ fresh_lateral
+unfolding reset_lateral fresh_lateral quieted
+norm_reset_lateral self = norm_of_reset (reset_lateral self) (record { never_ran = refl; no_request = refl })
 
 -- A piloted call leaves the fresh memory, with the heading target that it set and the wind memory that it updated.
 pub piloted_leaves_fresh : (self : Memory) (config : CopterGuidanceConfig) (dt : Float) (state : VehicleState) (heading : Float)
     → norm (piloted self config dt state heading) ≡ fresh_with heading (wind_updated self config dt state)
 unfolding norm piloted fresh_with
-piloted_leaves_fresh self config dt state heading = rw (norm_idled self.lateral)
+piloted_leaves_fresh self config dt state heading = rw (norm_reset_lateral self.lateral)
 
 -- whatever the lateral memory was, a piloted call answers the same, and leaves the same but for what `norm` sets
 norm_piloted : (self : CopterGuidance) (dt : Float) (state : VehicleState) (call : Piloted) (lateral : LateralMemory)
     → norm_guided (pilot (with_lateral self lateral) dt state call)
     ≡ record {
-      craft = with_lateral (pilot self dt state call).craft upright;
+      craft = with_lateral (pilot self dt state call).craft fresh_lateral;
       setpoint = (pilot self dt state call).setpoint;
       flags = (pilot self dt state call).flags;
     }
 unfolding norm_guided norm_craft norm with_lateral
-norm_piloted self dt state call lateral = rw (lateral_unread self dt state call lateral, norm_idled lateral)
+norm_piloted self dt state call lateral = rw (lateral_unread self dt state call lateral, norm_reset_lateral lateral)
 
 piloted_from_norm : (self : CopterGuidance) (dt : Float) (state : VehicleState) (call : Piloted)
     → norm_guided (pilot self dt state call) ≡ norm_guided (pilot (norm_craft self) dt state call)
@@ -215,8 +215,8 @@ call_from_norm self dt state (calls.navigated (land command)) = fly_to_from_norm
 -- ---- configure, priming and the wind reading
 
 pub norm_fresh : (heading : Float) (wind : HoverWind) → norm (fresh_with heading wind) ≡ fresh_with heading wind
-unfolding norm fresh_with upright quieted
-norm_fresh heading wind = rw (norm_of_reset upright (record { never_ran = refl; no_request = refl }))
+unfolding norm fresh_with fresh_lateral quieted
+norm_fresh heading wind = rw (norm_of_reset fresh_lateral (record { never_ran = refl; no_request = refl }))
 
 pub prime_from_norm : (self : CopterGuidance) (state : VehicleState) → prime self state ≡ prime (norm_craft self) state
 unfolding prime norm_craft norm

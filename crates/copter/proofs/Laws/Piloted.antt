@@ -1,21 +1,24 @@
 -- What a piloted call does: all but the stored tilt and capped is reset, the raw throttle decides whether it is idle, and the thrust is in [0, 1]. It reads
--- nothing of the lateral memory. A priming leaves a divider and a request as after a reset. Assumes nothing.
+-- nothing of the lateral memory. Assumes nothing.
 use mathlib.Core.Path.{◌≡◌, refl}
 use mathlib.Core.Bool.{not}
 use lib.Dec.{T}
 use lib.Ieee.{Float, lt}
+use Rattle.altitude.specs.Altitude as altitude
+use Rattle.lateral.specs.Lateral as lateral
 use Rattle.wind.specs.declared.state.VehicleState.{VehicleState}
+use Rattle.heading.specs.LegHeading as leg
+use Rattle.heading.specs.WindHeading as wind
 use Rattle.copter.specs.declared.commands.Setpoint.{Setpoint}
 use Rattle.copter.specs.declared.memory.LateralMemory.{LateralMemory}
 use Rattle.copter.specs.declared.memory.CopterGuidance.{CopterGuidance}
-use Rattle.copter.specs.declared.thrust.Held.{Held}
+use Rattle.copter.specs.declared.thrust.PilotedThrust.{PilotedThrust}
 use Rattle.copter.specs.Config.{below_one}
-use Rattle.copter.specs.Memory.{level, upright, idled}
+use Rattle.copter.specs.Memory.{fresh_vertical, reset_lateral}
 use Rattle.copter.specs.Thrust.{boosted}
-use Rattle.copter.specs.Guide.{wind_updated, piloted, piloted_flags, attitude_call, absolute_attitude_call, absolute_rate_call, prime}
+use Rattle.copter.specs.Guide.{wind_updated, piloted, piloted_flags, attitude_call, absolute_attitude_call, absolute_rate_call}
 use Rattle.copter.specs.Calls.{thrust_of, PilotedCall}
 use Rattle.copter.proofs.Laws.Calls.{Piloted, attitude, absolute_attitude, absolute_rate, pilot}
-use Rattle.copter.proofs.Laws.Navigation.{FromReset}
 use Rattle.copter.proofs.Laws.Thrust.{InUnit, idle_by_raw_throttle, absolute_idle_by_raw_thrust, stick_thrust_in_unit, absolute_thrust_in_unit}
 
 -- ---- a piloted call
@@ -28,7 +31,7 @@ raw_throttle (absolute_rate command) = command.thrust
 
 module _ (self : CopterGuidance) (dt : Float) (state : VehicleState) where
   -- a call whose setpoint asks for the thrust that is held
-  held_call : (raw heading : Float) (held : Held) (setpoint : Setpoint) → held.idle ≡ not (lt self.config.guidance.idle_throttle raw)
+  held_call : (raw heading : Float) (held : PilotedThrust) (setpoint : Setpoint) → held.idle ≡ not (lt self.config.guidance.idle_throttle raw)
       → InUnit held.value → thrust_of setpoint ≡ held.value
       → PilotedCall self raw
       (record {
@@ -36,11 +39,19 @@ module _ (self : CopterGuidance) (dt : Float) (state : VehicleState) where
         setpoint = setpoint;
         flags = piloted_flags held;
       })
-  unfolding piloted idled piloted_flags level
+  unfolding piloted reset_lateral piloted_flags fresh_vertical altitude.fresh lateral.fresh leg.fresh wind.fresh
   held_call raw heading held setpoint i u e =
       record {
         resets =
-            record { vertical = refl; no_target = refl; at_rest = refl; controller = refl; requested = refl; divider = refl; leg_heading = refl; tilt_stays = refl; capped_stays = refl };
+            record {
+              altitude = refl;
+              lateral = refl;
+              requested = refl;
+              divider = refl;
+              leg_heading = refl;
+              tilt_stays = refl;
+              capped_stays = refl;
+            };
         idle = i;
         tilt_not_flagged = refl;
         thrust_in_unit = rw e u;
@@ -82,7 +93,7 @@ with_lateral self lateral =
 pub lateral_unread : (self : CopterGuidance) (dt : Float) (state : VehicleState) (call : Piloted) (lateral : LateralMemory)
     → pilot (with_lateral self lateral) dt state call
     ≡ record {
-      craft = with_lateral (pilot self dt state call).craft (idled lateral);
+      craft = with_lateral (pilot self dt state call).craft (reset_lateral lateral);
       setpoint = (pilot self dt state call).setpoint;
       flags = (pilot self dt state call).flags;
     }
@@ -90,13 +101,3 @@ unfolding with_lateral attitude_call absolute_attitude_call absolute_rate_call p
 lateral_unread self dt state (attitude command) lateral = refl
 lateral_unread self dt state (absolute_attitude command) lateral = refl
 lateral_unread self dt state (absolute_rate command) lateral = refl
-
--- ---- a priming
-
-pub prime_uprights : (self : CopterGuidance) (state : VehicleState) → (prime self state).memory.lateral ≡ upright
-unfolding prime
-prime_uprights self state = refl
-
-pub upright_from_reset : FromReset upright
-unfolding upright
-upright_from_reset = record { never_ran = refl; no_request = refl }

@@ -15,15 +15,14 @@ use Rattle.controllers.specs.declared.rate_divider.RateDivider.TheVariants.{Neve
 use Rattle.controllers.specs.declared.rate_divider.Due.{Due}
 use Rattle.controllers.specs.declared.rate_divider.Due.TheVariants.{Step, NotYet}
 use Rattle.controllers.proofs.Laws.Divider.{accepted→legal, legal_finite, ran_bounded, due_keeps_bound, step_is_legal}
-use Rattle.altitude.proofs.Laws.Cases.{cond_holds}
+use Rattle.math.proofs.Laws.Cases.{cond_holds}
 use Rattle.altitude.proofs.Laws.Integral as altitudes
-use Rattle.altitude.proofs.Laws.Within.{Within}
+use Rattle.controllers.proofs.Laws.Within.{Within}
 use Rattle.lateral.specs.Lateral as lateral
 use Rattle.lateral.proofs.Laws.Integral as laterals
 use Rattle.lateral.proofs.Laws.Vectors.{Each}
 use Rattle.wind.specs.declared.state.VehicleState.{VehicleState}
 use Rattle.wind.specs.declared.window.Filter.{Filter}
-use Rattle.wind.specs.Window as windows
 use Rattle.heading.specs.declared.leg_heading.Turn.{Turn}
 use Rattle.heading.proofs.Laws.HoverWind.{update_sound}
 use Rattle.heading.proofs.Laws.HoverWind as winds
@@ -36,9 +35,9 @@ use Rattle.copter.specs.declared.descent.Descended.{Descended}
 use Rattle.copter.specs.declared.tilt.Course.{Course}
 use Rattle.copter.specs.declared.tilt.Tilted.{Tilted}
 use Rattle.copter.specs.Config.{Valid}
-use Rattle.copter.specs.Memory.{level, upright, idled, fresh}
+use Rattle.copter.specs.Memory.{fresh_vertical, fresh_lateral, reset_lateral, fresh}
 use Rattle.copter.specs.Tilt.{lateral_target, lateral_estimate, navigable, held, levelled, run, tilted_when, tilt_toward}
-use Rattle.copter.specs.Guide.{heading_target, wind_updated, piloted, attitude_call, absolute_attitude_call, absolute_rate_call, climb, fly_to}
+use Rattle.copter.specs.Guide.{heading_target, wind_updated, piloted, attitude_call, absolute_attitude_call, absolute_rate_call, altitude_control, fly_to}
 use Rattle.copter.specs.Guide.{waypoint_call, land_call, guide_call, new_craft, prime}
 use Rattle.copter.specs.Calls.{NoneOrFinite}
 use Rattle.copter.proofs.Laws.Calls.{attitude, absolute_attitude, absolute_rate, waypoint, land, Call, guide, course, call_of, guide_call_of}
@@ -69,13 +68,13 @@ module _ (config : CopterGuidanceConfig) (valid : Valid config) where
   fresh_integral : Each (Within limit) (lateral.fresh).integrated_error
   fresh_integral = laterals.fresh_within config.lateral valid.lateral_max_integral
 
-  upright_sound : LateralSound limit upright
-  unfolding upright
-  upright_sound = record { divider = tt; no_request = λ _. refl; integral = fresh_integral }
+  fresh_lateral_sound : LateralSound limit fresh_lateral
+  unfolding fresh_lateral
+  fresh_lateral_sound = record { divider = tt; no_request = λ _. refl; integral = fresh_integral }
 
-  idled_sound : (self : LateralMemory) → LateralSound limit (idled self)
-  unfolding idled
-  idled_sound self = record { divider = tt; no_request = λ _. refl; integral = fresh_integral }
+  reset_lateral_sound : (self : LateralMemory) → LateralSound limit (reset_lateral self)
+  unfolding reset_lateral
+  reset_lateral_sound self = record { divider = tt; no_request = λ _. refl; integral = fresh_integral }
 
   module _ (self : LateralMemory) (course : Course) (estimate : Filter) (state : VehicleState) where
     tilted_sound : (step : Due) (rate : RateDivider) → Bounded rate → (rate ≡ NeverRan → self.requested_accel_mps2 ≡ zeros)
@@ -104,14 +103,11 @@ module _ (config : CopterGuidanceConfig) (valid : Valid config) where
 
 -- ---- wind memory
 
-pub accepted_step : (dt : Float) → Accepted dt → windows.Accepted dt
-accepted_step dt a = record { at_least = a.0; at_most = a.1 }
-
 wind_updated_sound : (self : Memory) (config : CopterGuidanceConfig) (dt : Float) (state : VehicleState) → Accepted dt → winds.Sound self.wind
     → winds.Sound (wind_updated self config dt state)
 unfolding wind_updated
 wind_updated_sound self config dt state a s =
-    update_sound self.wind dt config.wind config.guidance.airborne_height_m state s (accepted_step dt a)
+    update_sound self.wind dt config.wind config.guidance.airborne_height_m state s a
 
 -- ---- the whole craft
 
@@ -124,25 +120,25 @@ pub record Sound (self : CopterGuidance) : Type 0 where
   pub wind : winds.Sound self.memory.wind
 
 fresh_sound : (config : CopterGuidanceConfig) → Valid config → Sound (new_craft config)
-unfolding new_craft fresh level fits of_bits
+unfolding new_craft fresh fresh_vertical fits of_bits
 fresh_sound config v =
     record {
       valid = v;
       altitude_target = tt;
       altitude_integral = altitudes.fresh_within config.altitude v.altitude_max_integral;
-      lateral = upright_sound config v;
+      lateral = fresh_lateral_sound config v;
       heading = tt;
       wind = winds.fresh_sound;
     }
 
 pub prime_sound : (self : CopterGuidance) (state : VehicleState) → T (fits binary32 state.heading_rad) → Sound self → Sound (prime self state)
-unfolding prime level
+unfolding prime fresh_vertical
 prime_sound self state p s =
     record {
       valid = s.valid;
       altitude_target = tt;
       altitude_integral = altitudes.fresh_within self.config.altitude s.valid.altitude_max_integral;
-      lateral = upright_sound self.config s.valid;
+      lateral = fresh_lateral_sound self.config s.valid;
       heading = p;
       wind = winds.prime_sound self.memory.wind self.config.guidance.airborne_height_m state s.wind;
     }
@@ -150,20 +146,20 @@ prime_sound self state p s =
 module _ (self : CopterGuidance) (dt : Float) (state : VehicleState) (a : Accepted dt) (s : Sound self) where
   piloted_sound : (heading : Float) → T (fits binary32 heading)
       → Sound (record { config = self.config; memory = piloted self.memory self.config dt state heading })
-  unfolding piloted level
+  unfolding piloted fresh_vertical
   piloted_sound heading p =
       record {
         valid = s.valid;
         altitude_target = tt;
         altitude_integral = altitudes.fresh_within self.config.altitude s.valid.altitude_max_integral;
-        lateral = idled_sound self.config s.valid self.memory.lateral;
+        lateral = reset_lateral_sound self.config s.valid self.memory.lateral;
         heading = p;
         wind = wind_updated_sound self.memory self.config dt state a s.wind;
       }
 
   fly_to_sound : (course : Course) (descended : Descended) (turn : Turn) → NoneOrFinite descended.hold
       → Sound (fly_to self dt state course descended turn (wind_updated self.memory self.config dt state)).craft
-  unfolding fly_to climb
+  unfolding fly_to altitude_control
   fly_to_sound course descended turn h =
       let kept = self.memory.heading_rad in
       let estimate = state.heading_rad in

@@ -4,29 +4,28 @@ use mathlib.Core.Path.{◌≡◌, refl}
 use mathlib.Core.Bool.{Bool, true, false, not, cond, ◌&&◌, ◌||◌}
 use mathlib.Core.Logic.{inl, inr}
 use lib.Dec.{T}
-use lib.Ieee.{Float, binary32, nan, is_nan, fits, neg, of_bits, lt, le}
+use lib.Ieee.{Float, nan, is_nan, neg, of_bits, lt, le}
 use lib.Ieee.Bits.{is_true, is_false}
 use Rattle.floats.specs.Ops.{◌⊖◌, ◌⊗◌}
 use Rattle.floats.specs.MinMax.{max}
-use Rattle.floats.proofs.Laws.Order.{nan_left, nan_right, le_numbers, lt_numbers, lt→le, le_refl, lt_not_le, le_not_lt}
+use Rattle.floats.proofs.Laws.Order.{nan_left, nan_right, le_numbers, lt_numbers, lt→le, float_le_refl, lt_not_le, le_not_lt}
 use Rattle.floats.proofs.Laws.Special.{is_nan_lem}
 use Rattle.math.specs.Math.{zero, one, tilt_boost, guard_sink}
 use Rattle.math.specs.declared.vectors.Quaternion.{Quaternion}
 use Rattle.math.specs.declared.SinkGuard.{SinkGuard}
 use Rattle.math.specs.declared.SinkGuard.TheVariants.{Raised, Off}
-use Rattle.math.proofs.Laws.Limits.{by_test, saturate_throttle_in_unit}
-use Rattle.math.proofs.Laws.Thrust.{excess_positive}
+use Rattle.math.proofs.Laws.Cases.{by_test, cond_holds}
+use Rattle.math.proofs.Laws.Limits.{saturate_throttle_in_unit}
 use Rattle.altitude.specs.Altitude.{control}
 use Rattle.altitude.specs.declared.AltitudeControllerConfig.{AltitudeControllerConfig}
 use Rattle.altitude.specs.declared.AltitudeTarget.{AltitudeTarget}
 use Rattle.altitude.specs.declared.AltitudeEstimate.{AltitudeEstimate}
 use Rattle.altitude.specs.declared.AltitudeController.{AltitudeController}
-use Rattle.altitude.proofs.Laws.Cases.{cond_holds}
 use Rattle.altitude.proofs.Laws.Thrust.{NanOrUnit, thrust_nan_or_unit}
 use Rattle.copter.specs.declared.config.ThrustLimits.{ThrustLimits}
 use Rattle.copter.specs.declared.config.CopterGuidanceConfig.{CopterGuidanceConfig}
 use Rattle.copter.specs.declared.thrust.Thrust.{Thrust}
-use Rattle.copter.specs.declared.thrust.Held.{Held}
+use Rattle.copter.specs.declared.thrust.PilotedThrust.{PilotedThrust}
 use Rattle.copter.specs.Config.{below_one}
 use Rattle.controllers.specs.Checks.{check_unit_interval}
 use Rattle.copter.specs.Thrust.{clip_thrust, boost, floor_thrust, guarded_by, guarded, hold_piloted, hold_absolute, boosted}
@@ -61,12 +60,6 @@ unfolding boost
 boost_flags_above_ceiling throttle ceiling attitude =
     flag_by_test (lt (max ceiling throttle) (throttle ⊗ tilt_boost attitude)) (max ceiling throttle) (throttle ⊗ tilt_boost attitude)
 
-pub boosted_flags_either : (throttle ceiling : Float) (attitude : Quaternion)
-    → (boosted throttle attitude ceiling).saturated
-    ≡ (boost throttle attitude ceiling).saturated || (clip_thrust (boost throttle attitude ceiling).value).saturated
-unfolding boosted
-boosted_flags_either throttle ceiling attitude = refl
-
 pub floor_flags_below : (thrust least : Float) → (floor_thrust thrust least).saturated ≡ lt thrust least
 unfolding floor_thrust
 floor_flags_below thrust least = flag_by_test (lt thrust least) least thrust
@@ -85,11 +78,6 @@ pub guard_flags_sink : (thrust : Thrust) (climb : Float) (limits : ThrustLimits)
 unfolding guarded guard_sink
 guard_flags_sink thrust climb limits = guard_by_flag (sinks_past climb limits) _ thrust
 
--- of floats that the format holds, the difference is positive where the climb is below minus the limit
-pub sinks_past_limit : (climb : Float) (limits : ThrustLimits) → T (fits binary32 climb) → T (fits binary32 limits.sink_limit_mps)
-    → sinks_past climb limits ≡ lt zero limits.sink_limit_mps && lt climb (neg limits.sink_limit_mps)
-sinks_past_limit climb limits p q = rw (excess_positive climb limits.sink_limit_mps p q)
-
 pub navigated_flags_bounds_and_floor : (linear least : Float)
     → (navigated_thrust linear least).saturated ≡ le linear zero || le one linear || lt linear least
 unfolding navigated_thrust
@@ -98,14 +86,14 @@ navigated_flags_bounds_and_floor linear least = rw (floor_flags_below linear lea
 -- ---- a piloted thrust
 
 held_by_test : (b s h : Bool) (v w : Float)
-    → (cond {A = Held} b (record { value = v; saturated = s || h; idle = false }) (record { value = w; saturated = s; idle = true })).saturated
+    → (cond {A = PilotedThrust} b (record { value = v; saturated = s || h; idle = false }) (record { value = w; saturated = s; idle = true })).saturated
     ≡ s || b && h
 held_by_test true s h v w = refl
 held_by_test false true h v w = refl
 held_by_test false false h v w = refl
 
 idle_by_test : (b s t : Bool) (v w : Float)
-    → (cond {A = Held} b (record { value = v; saturated = s; idle = false }) (record { value = w; saturated = t; idle = true })).idle ≡ not b
+    → (cond {A = PilotedThrust} b (record { value = v; saturated = s; idle = false }) (record { value = w; saturated = t; idle = true })).idle ≡ not b
 idle_by_test true s t v w = refl
 idle_by_test false s t v w = refl
 
@@ -118,11 +106,6 @@ module _ (throttle : Float) (thrust : Thrust) (climb idle : Float) (limits : Thr
   unfolding hold_piloted
   idle_by_raw_throttle = idle_by_test (lt idle throttle) _ _ _ _
 
-  pub idle_passes_thrust : T (not (lt idle throttle))
-      → hold_piloted throttle thrust climb idle limits ≡ record { value = thrust.value; saturated = thrust.saturated; idle = true }
-  unfolding hold_piloted
-  idle_passes_thrust h = rw (is_false (lt idle throttle) h)
-
   -- beyond what boost and clip flag: the floor and the sink guard, of a throttle that is not idle
   pub piloted_flags_floor_and_sink : (hold_piloted throttle thrust climb idle limits).saturated
       ≡ thrust.saturated || lt idle throttle && (sinks_past climb limits || lt thrust.value limits.min_thrust)
@@ -133,9 +116,6 @@ module _ (throttle : Float) (thrust : Thrust) (climb idle : Float) (limits : Thr
         floor_flags_below thrust.value limits.min_thrust,
       )
       (held_by_test (lt idle throttle) thrust.saturated (sinks_past climb limits || lt thrust.value limits.min_thrust) _ _)
-
-pub nan_throttle_is_idle : (thrust : Thrust) (climb idle : Float) (limits : ThrustLimits) → (hold_piloted nan thrust climb idle limits).idle ≡ true
-nan_throttle_is_idle thrust climb idle limits = rw (idle_by_raw_throttle nan thrust climb idle limits, (nan_right idle).0)
 
 pub absolute_idle_by_raw_thrust : (thrust climb : Float) (config : CopterGuidanceConfig)
     → (hold_absolute thrust climb config).idle ≡ not (lt config.guidance.idle_throttle thrust)
@@ -164,7 +144,7 @@ piloted_in_unit : (throttle : Float) (thrust : Thrust) (climb idle : Float) (lim
     → InUnit thrust.value → T (below_one limits.min_thrust) → InUnit (hold_piloted throttle thrust climb idle limits).value
 unfolding hold_piloted
 piloted_in_unit throttle thrust climb idle limits u r =
-    cond_holds (λ (h : Held). InUnit h.value) (lt idle throttle)
+    cond_holds (λ (h : PilotedThrust). InUnit h.value) (lt idle throttle)
     (λ _. guarded_in_unit (floor_thrust thrust.value limits.min_thrust) climb limits
     (floored_in_unit thrust.value limits.min_thrust u r))
     (λ _. u)
@@ -193,7 +173,7 @@ unfolding floor_thrust
 floored_from_floor thrust least u h =
     let n = (lt_numbers least one h).0 in
     cond_holds (λ (t : Thrust). T (le least t.value) × T (le t.value one)) (lt thrust least)
-    (λ _. (le_refl least n, lt→le least one h))
+    (λ _. (float_le_refl least n, lt→le least one h))
     (λ k. (rw (le_not_lt least thrust n (le_numbers thrust one u.1).0) k, u.1))
 
 pub navigated_nan_or_from_floor : (linear least : Float) → NanOrUnit linear → T (below_one least)

@@ -12,7 +12,7 @@ use lib.Ieee.Positive.{num, den, den_pos}
 use Rattle.floats.specs.Ops.{f64}
 use Rattle.floats.specs.Compare.{is_negative}
 use Rattle.floats.specs.Narrow.{convert}
-use Rattle.floats.proofs.Laws.Order.{le_trans as float_le_trans, -0, lt→le, finite_between, negative_below}
+use Rattle.floats.proofs.Laws.Order.{float_le_trans, -0, lt→le, finite_between, negative_below}
 use Rattle.floats.proofs.Laws.Nearest.{closest_add, closest_le}
 use Rattle.floats.proofs.Laws.Round.{own_fraction, fractions_of_le, fractions_of_lt, value_same, value_unique, convert_rounds, convert_in_format}
 use Rattle.floats.proofs.Laws.Fractions.{add_alike}
@@ -104,7 +104,8 @@ above_zero x h = is_false (is_negative x) (not_T (is_negative x) (λ s. float_le
 module _ (x : Float) (least : T (le half x)) (most : T (lt x one)) where
   its_value : HasValue x false (num x) (den x)
   unfolding of_bits
-  its_value = subst (λ (s : Bool). HasValue x s (num x) (den x)) (above_zero x least) (own_fraction x (finite_between half x one tt tt least (lt→le x one most)))
+  its_value =
+      subst (λ (s : Bool). HasValue x s (num x) (den x)) (above_zero x least) (own_fraction x (finite_between half x one tt tt least (lt→le x one most)))
 
   at_least_half : den x ≤ 2 * num x
   unfolding of_bits

@@ -19,7 +19,8 @@ below_ones o x h e = omega arith
 fields_value : (f : Format) (s : Bool) (x t : ℕ) → x < ones f → HasValue (of_fields f s x t) s ((min 1 x * hid f + t) * 2 ^ (x - 1)) (2 ^ low f)
 unfolding of_fields
 fields_value f s zero t h = rw (zero-mul, zero-add) (odd_sign (prec f) s t 0 (low f))
-fields_value f s (suc x) t h = rw (ne_eqb (suc x) (ones f) (below_ones (ones f) x h), one x, before x, sym (once (hid f) t)) (odd_sign (prec f) s (hid f + t) x (low f))
+fields_value f s (suc x) t h =
+    rw (ne_eqb (suc x) (ones f) (below_ones (ones f) x h), one x, before x, sym (once (hid f) t)) (odd_sign (prec f) s (hid f + t) x (low f))
 
 pub of_bits_value : (f : Format) (b : ℕ) → b % top f < ones f * hid f
     → HasValue (of_bits f b) (leb (top f) b) ((min 1 (b % top f / hid f) * hid f + b % hid f) * 2 ^ (b % top f / hid f - 1)) (2 ^ low f)

@@ -28,7 +28,12 @@ module _ (a b c x y d : ℕ) (C : 0 < c) (D : 0 < d) (p : x * c ≡ a * d) (q : 
   plus_same = add-mul x y c ∙ ap₂ (λ (z w : ℕ). z + w) p q ∙ sym (add-mul a b d)
 
   minus_same : (x - y) * c ≡ (a - b) * d
-  minus_same = mul_comm (x - y) c ∙ mul-sub c x y ∙ ap₂ (λ (z w : ℕ). z - w) (mul_comm c x ∙ p ∙ mul_comm a d) (mul_comm c y ∙ q ∙ mul_comm b d) ∙ sym (mul-sub d a b) ∙ mul_comm d (a - b)
+  minus_same =
+      mul_comm (x - y) c
+      ∙ mul-sub c x y
+      ∙ ap₂ (λ (z w : ℕ). z - w) (mul_comm c x ∙ p ∙ mul_comm a d) (mul_comm c y ∙ q ∙ mul_comm b d)
+      ∙ sym (mul-sub d a b)
+      ∙ mul_comm d (a - b)
 
 sum_same : (f : Format) (s : Bool) (a : ℕ) (t : Bool) (b c x y d : ℕ) → 0 < c → 0 < d → x * c ≡ a * d → y * c ≡ b * d → sum f s x t y d ≡ sum f s a t b c
 sum_same f s a t b c x y d C D p q =
@@ -42,7 +47,8 @@ sum_same f s a t b c x y d C D p q =
       round_same f (s && ltb b a) (x - y) d (a - b) c D C (minus_same a b c x y d C D p q),
     )
 
-add_fin : (f : Format) (s : Bool) (m : ℕ) (e : ℤ) (t : Bool) (n : ℕ) (d : ℤ) → add f (fin s m e) (fin t n d) ≡ sum f s (m * up e * down d) t (n * up d * down e) (down e * down d)
+add_fin : (f : Format) (s : Bool) (m : ℕ) (e : ℤ) (t : Bool) (n : ℕ) (d : ℤ)
+    → add f (fin s m e) (fin t n d) ≡ sum f s (m * up e * down d) t (n * up d * down e) (down e * down d)
 unfolding add
 add_fin f s m e t n d = refl
 
@@ -59,6 +65,10 @@ add_sum f (fin s' m e) (fin t' n d) s a t b c C v w =
     ∙ ap₂ (λ (z w : Bool). sum f z (m * up e * down d) w (n * up d * down e) (down e * down d)) v.0 w.0
     ∙ sum_same f s a t b c (m * up e * down d) (n * up d * down e) (down e * down d) C (mul-pos (down_pos e) (down_pos d))
     (common (m * up e) (down e) (down d) a c v.1) (common_swapped (n * up d) (down d) (down e) b c w.1)
+add_sum f nan y s a t b c C v w = elim v [ ]
+add_sum f (inf _) y s a t b c C v w = elim v [ ]
+add_sum f (fin s' m e) nan s a t b c C v w = elim w [ ]
+add_sum f (fin s' m e) (inf _) s a t b c C v w = elim w [ ]
 
 -- The sign and the size of ±a ± b: sizes of like signs are added, and of opposite signs the larger has the sign of the difference. Opposite numbers give +0.
 abbrev pub total_sign : Bool → ℕ → Bool → ℕ → Bool
@@ -67,7 +77,8 @@ total_sign s a t b = cond (beq s t) s (cond (ltb a b) t (s && ltb b a))
 abbrev pub total_size : Bool → ℕ → Bool → ℕ → ℕ
 total_size s a t b = cond (beq s t) (a + b) (cond (ltb a b) (b - a) (a - b))
 
-pub add_rounds : (f : Format) (x y : Float) (s : Bool) (a : ℕ) (t : Bool) (b c : ℕ) → 0 < c → HasValue x s a c → HasValue y t b c → add f x y ≡ round f (total_sign s a t b) (total_size s a t b) c
+pub add_rounds : (f : Format) (x y : Float) (s : Bool) (a : ℕ) (t : Bool) (b c : ℕ) → 0 < c → HasValue x s a c → HasValue y t b c
+    → add f x y ≡ round f (total_sign s a t b) (total_size s a t b) c
 add_rounds f x y s a t b c C v w = add_sum f x y s a t b c C v w ∙ sum_shape f s a t b c ∙ go (beq s t) (ltb a b)
   where
     go : (p q : Bool) → cond p (round f s (a + b) c) (cond q (round f t (b - a) c) (round f (s && ltb b a) (a - b) c))
@@ -83,7 +94,8 @@ add_alike f x y s a b c C v w = add_rounds f x y s a s b c C v w ∙ same s
     same true = refl
     same false = refl
 
-pub add_opposite : (f : Format) (x y : Float) (s : Bool) (a b c : ℕ) → 0 < c → b ≤ a → HasValue x s a c → HasValue y (not s) b c → add f x y ≡ round f (s && ltb b a) (a - b) c
+pub add_opposite : (f : Format) (x y : Float) (s : Bool) (a b c : ℕ) → 0 < c → b ≤ a → HasValue x s a c → HasValue y (not s) b c
+    → add f x y ≡ round f (s && ltb b a) (a - b) c
 add_opposite f x y s a b c C h v w = add_rounds f x y s a (not s) b c C v w ∙ go s (le-ltb a b h)
   where
     go : (s : Bool) → ltb a b ≡ false → round f (total_sign s a (not s) b) (total_size s a (not s) b) c ≡ round f (s && ltb b a) (a - b) c
@@ -96,7 +108,8 @@ sub_neg f x y = refl
 
 -- ---- products
 
-mul_fin : (f : Format) (s : Bool) (m : ℕ) (e : ℤ) (t : Bool) (n : ℕ) (d : ℤ) → mul f (fin s m e) (fin t n d) ≡ round f (unlike s t) (m * up e * (n * up d)) (down e * down d)
+mul_fin : (f : Format) (s : Bool) (m : ℕ) (e : ℤ) (t : Bool) (n : ℕ) (d : ℤ)
+    → mul f (fin s m e) (fin t n d) ≡ round f (unlike s t) (m * up e * (n * up d)) (down e * down d)
 unfolding mul
 mul_fin f s m e t n d = refl
 
@@ -104,12 +117,17 @@ mul_fin f s m e t n d = refl
 times : (x u a c y v b d : ℕ) → x * c ≡ a * u → y * d ≡ b * v → x * y * (c * d) ≡ a * b * (u * v)
 times x u a c y v b d p q = mul-mul-mul_comm x y c d ∙ ap₂ (λ (z w : ℕ). z * w) p q ∙ mul-mul-mul_comm a u b v
 
-pub mul_rounds : (f : Format) (x y : Float) (s : Bool) (a c : ℕ) (t : Bool) (b d : ℕ) → 0 < c → 0 < d → HasValue x s a c → HasValue y t b d → mul f x y ≡ round f (unlike s t) (a * b) (c * d)
+pub mul_rounds : (f : Format) (x y : Float) (s : Bool) (a c : ℕ) (t : Bool) (b d : ℕ) → 0 < c → 0 < d → HasValue x s a c → HasValue y t b d
+    → mul f x y ≡ round f (unlike s t) (a * b) (c * d)
 mul_rounds f (fin s' m e) (fin t' n k) s a c t b d C D v w =
     mul_fin f s' m e t' n k
     ∙ ap₂ (λ (z w : Bool). round f (unlike z w) (m * up e * (n * up k)) (down e * down k)) v.0 w.0
     ∙ round_same f (unlike s t) (m * up e * (n * up k)) (down e * down k) (a * b) (c * d) (mul-pos (down_pos e) (down_pos k)) (mul-pos C D)
     (times (m * up e) (down e) a c (n * up k) (down k) b d v.1 w.1)
+mul_rounds f nan y s a c t b d C D v w = elim v [ ]
+mul_rounds f (inf _) y s a c t b d C D v w = elim v [ ]
+mul_rounds f (fin s' m e) nan s a c t b d C D v w = elim w [ ]
+mul_rounds f (fin s' m e) (inf _) s a c t b d C D v w = elim w [ ]
 
 -- ---- quotients and remainders, by a divisor that is not zero
 
@@ -120,17 +138,24 @@ digits_pos n k b d B p = first_pos n (up k) (first_pos (n * up k) d (subst (λ (
 not_zero : (n : ℕ) → 0 < n → eqb n 0 ≡ false
 not_zero n h = ne_eqb n 0 (λ e. lt_irrefl 0 (subst (λ (z : ℕ). 0 < z) e h))
 
-pub div_fin : (f : Format) (s : Bool) (m : ℕ) (e : ℤ) (t : Bool) (n : ℕ) (d : ℤ) → 0 < n → div f (fin s m e) (fin t n d) ≡ round f (unlike s t) (m * up e * down d) (n * up d * down e)
+pub div_fin : (f : Format) (s : Bool) (m : ℕ) (e : ℤ) (t : Bool) (n : ℕ) (d : ℤ) → 0 < n
+    → div f (fin s m e) (fin t n d) ≡ round f (unlike s t) (m * up e * down d) (n * up d * down e)
 unfolding div
-div_fin f s m e t n d h = ap (λ (z : Bool). cond z (cond (eqb m 0) nan (inf (unlike s t))) (round f (unlike s t) (m * up e * down d) (n * up d * down e))) (not_zero n h)
+div_fin f s m e t n d h =
+    ap (λ (z : Bool). cond z (cond (eqb m 0) nan (inf (unlike s t))) (round f (unlike s t) (m * up e * down d) (n * up d * down e))) (not_zero n h)
 
-pub div_rounds : (f : Format) (x y : Float) (s : Bool) (a c : ℕ) (t : Bool) (b d : ℕ) → 0 < c → 0 < d → 0 < b → HasValue x s a c → HasValue y t b d → div f x y ≡ round f (unlike s t) (a * d) (b * c)
+pub div_rounds : (f : Format) (x y : Float) (s : Bool) (a c : ℕ) (t : Bool) (b d : ℕ) → 0 < c → 0 < d → 0 < b → HasValue x s a c → HasValue y t b d
+    → div f x y ≡ round f (unlike s t) (a * d) (b * c)
 div_rounds f (fin s' m e) (fin t' n k) s a c t b d C D B v w =
     let N = digits_pos n k b d B w.1 in
     div_fin f s' m e t' n k N
     ∙ ap₂ (λ (z w : Bool). round f (unlike z w) (m * up e * down k) (n * up k * down e)) v.0 w.0
     ∙ round_same f (unlike s t) (m * up e * down k) (n * up k * down e) (a * d) (b * c) (mul-pos (mul-pos N (up_pos k)) (down_pos e)) (mul-pos B C)
     (ap (λ (z : ℕ). m * up e * down k * z) (mul_comm b c) ∙ times (m * up e) (down e) a c (down k) (n * up k) d b v.1 (mul_comm (down k) b ∙ sym w.1 ∙ mul_comm (n * up k) d) ∙ ap (λ (z : ℕ). a * d * z) (mul_comm (down e) (n * up k)))
+div_rounds f nan y s a c t b d C D B v w = elim v [ ]
+div_rounds f (inf _) y s a c t b d C D B v w = elim v [ ]
+div_rounds f (fin s' m e) nan s a c t b d C D B v w = elim w [ ]
+div_rounds f (fin s' m e) (inf _) s a c t b d C D B v w = elim w [ ]
 
 pub mod_scale : (k a b : ℕ) → 0 < k → k * a % (k * b) ≡ k * (a % b)
 mod_scale k a b K =
@@ -149,15 +174,21 @@ mod_same a b c x y d C D p q =
     ∙ mod_scale d a b D
     ∙ mul_comm d (a % b)
 
-rem_fin : (f : Format) (s : Bool) (m : ℕ) (e : ℤ) (t : Bool) (n : ℕ) (d : ℤ) → 0 < n → rem f (fin s m e) (fin t n d) ≡ round f s (m * up e * down d % (n * up d * down e)) (down e * down d)
+rem_fin : (f : Format) (s : Bool) (m : ℕ) (e : ℤ) (t : Bool) (n : ℕ) (d : ℤ) → 0 < n
+    → rem f (fin s m e) (fin t n d) ≡ round f s (m * up e * down d % (n * up d * down e)) (down e * down d)
 unfolding rem
 rem_fin f s m e t n d h = ap (λ (z : Bool). cond z nan (round f s (m * up e * down d % (n * up d * down e)) (down e * down d))) (not_zero n h)
 
 -- by any fractions over one denominator
-pub rem_rounds : (f : Format) (x y : Float) (s : Bool) (a : ℕ) (t : Bool) (b c : ℕ) → 0 < c → 0 < b → HasValue x s a c → HasValue y t b c → rem f x y ≡ round f s (a % b) c
+pub rem_rounds : (f : Format) (x y : Float) (s : Bool) (a : ℕ) (t : Bool) (b c : ℕ) → 0 < c → 0 < b → HasValue x s a c → HasValue y t b c
+    → rem f x y ≡ round f s (a % b) c
 rem_rounds f (fin s' m e) (fin t' n d) s a t b c C B v w =
     let D = mul-pos (down_pos e) (down_pos d) in
     rem_fin f s' m e t' n d (digits_pos n d b c B w.1)
     ∙ ap (λ (z : Bool). round f z (m * up e * down d % (n * up d * down e)) (down e * down d)) v.0
     ∙ round_same f s (m * up e * down d % (n * up d * down e)) (down e * down d) (a % b) c D C
     (mod_same a b c (m * up e * down d) (n * up d * down e) (down e * down d) C D (common (m * up e) (down e) (down d) a c v.1) (common_swapped (n * up d) (down d) (down e) b c w.1))
+rem_rounds f nan y s a t b c C B v w = elim v [ ]
+rem_rounds f (inf _) y s a t b c C B v w = elim v [ ]
+rem_rounds f (fin s' m e) nan s a t b c C B v w = elim w [ ]
+rem_rounds f (fin s' m e) (inf _) s a t b c C B v w = elim w [ ]

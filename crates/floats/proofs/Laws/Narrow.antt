@@ -133,10 +133,13 @@ module _ (b : ℕ) (h : b % 2 ^ 63 < 897 * 2 ^ 52) where
       swap a c l u = rw (add_comm a c) (mul_right_comm (c + a) l u)
 
   pub sum_number : is_nan (sum b) ≡ false
-  sum_number = ap is_nan sum_rounds ∙ is_false (is_nan (round binary64 false (amount b + 2 ^ 977) (2 ^ 1074))) (round_number binary64 false (amount b + 2 ^ 977) (2 ^ 1074))
+  sum_number =
+      ap is_nan sum_rounds
+      ∙ is_false (is_nan (round binary64 false (amount b + 2 ^ 977) (2 ^ 1074))) (round_number binary64 false (amount b + 2 ^ 977) (2 ^ 1074))
 
   pub sum_range : (926 * 2 ^ 52 ≤ to_bits binary64 (sum b)) × (to_bits binary64 (sum b) ≤ 926 * 2 ^ 52 + 2 ^ 23)
-  sum_range = within (closest (amount b) (2 ^ 925)) (to_bits binary64 (sum b)) sum_pattern (closest_le (2 ^ 23) (amount b) (2 ^ 925) (pow_pos 925) (amount_small b h))
+  sum_range =
+      within (closest (amount b) (2 ^ 925)) (to_bits binary64 (sum b)) sum_pattern (closest_le (2 ^ 23) (amount b) (2 ^ 925) (pow_pos 925) (amount_small b h))
     where
       within : (q n : ℕ) → n ≡ 926 * 2 ^ 52 + q → q ≤ 2 ^ 23 → (926 * 2 ^ 52 ≤ n) × (n ≤ 926 * 2 ^ 52 + 2 ^ 23)
       within q n e l = omega arith
@@ -166,6 +169,7 @@ sign_weight b B = go (leb (2 ^ 63) b) (leb→le (2 ^ 63) b) (nleb→lt (2 ^ 63) 
     go false l g = omega (arith, g tt)
 
 -- it stands for the converted value whose pattern it is
-pub made_for : (x : Float) (b p : ℕ) → b < 2 ^ 64 → to_bits binary32 (convert binary32 x) ≡ sign b + p → of_bits binary32 (b / 2 ^ 63 * 2 ^ 31 + p) ≡ convert binary32 x
+pub made_for : (x : Float) (b p : ℕ) → b < 2 ^ 64 → to_bits binary32 (convert binary32 x) ≡ sign b + p
+    → of_bits binary32 (b / 2 ^ 63 * 2 ^ 31 + p) ≡ convert binary32 x
 made_for x b p B e =
     ap (of_bits binary32) (sym (e ∙ ap (λ (w : ℕ). w + p) (sign_weight b B))) ∙ of_bits-to_bits binary32 (convert binary32 x) (convert_in_format binary32 x)

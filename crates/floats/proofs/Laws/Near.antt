@@ -4,12 +4,12 @@ use Prim.Native.Nat.{Ordering}
 use lib.Ieee.{Format, prec, low, size, nearest, round}
 use lib.Ieee.Exact.{HasValue}
 use lib.Ieee.Digits.{size_reaches}
-use lib.Ieee.Fits.{two}
+use lib.Ieee.Fits.{two, two-le_pos}
 use lib.Ieee.Nearest.{closest}
 use lib.Ieee.Positive.{num, den, positive, positive_of_value, value→cross}
 use lib.Ieee.Scale.{finite, grid, round_val, round_under, normal_of_fraction}
 use Rattle.floats.proofs.Laws.Nearest.{compared, closest_ge}
-use Rattle.floats.proofs.Laws.Sqrt.Rounding.{twice_pow}
+use Rattle.floats.proofs.Laws.Round.{twice_pow}
 
 -- x is y but for one part in t of y at most
 abbrev pub Near : ℕ → ℕ → ℕ → Type 0
@@ -40,7 +40,7 @@ half_off_near t q u n h k = omega (arith, mul-le-mul_left t h.0, mul-le-mul_left
 small_step : (p n c : ℕ) → 2 ≤ p → 0 < c → p ≤ size (n / c) → 2 ^ p * (c * 2 ^ (size (n / c) - p)) ≤ 2 * n
 small_step p n c P C h =
     let z = size (n / c) in
-    rw (twice_pow p P)
+    rw (twice_pow p (two-le_pos p P))
     (parts (2 ^ (p - 1)) (2 ^ (z - p)) c n (rw (pow-add 2 (p - 1) (z - p)) at ((le-div_iff_mul-le C).0 (size_reaches (n / c) (p - 1 + (z - p)) (counted z p P h)))))
   where
     counted : (z p : ℕ) → 2 ≤ p → p ≤ z → p - 1 + (z - p) < z
@@ -88,7 +88,7 @@ module _ (f : Format) (a c : ℕ) (C : 0 < c) (normal : 2 ^ (prec f - 1) * c ≤
   pub round_positive : T (positive (round f false a c))
   round_positive =
       positive_of_value (round f false a c) (grid f a c) (2 ^ low f) value
-      (mul-pos (closest_ge 1 units step step_pos (one_step (2 ^ (prec f - 1)) step units (pow_pos (prec f - 1)) (rw (twice_pow (prec f) (two f)) at step_small))) (pow_pos dropped))
+      (mul-pos (closest_ge 1 units step step_pos (one_step (2 ^ (prec f - 1)) step units (pow_pos (prec f - 1)) (rw (twice_pow (prec f) (two-le_pos (prec f) (two f))) at step_small))) (pow_pos dropped))
     where
       one_step : (t u n : ℕ) → 0 < t → 2 * t * u ≤ 2 * n → 1 * u ≤ n
       one_step t u n some h = omega (arith, mul-le-mul_right u some)

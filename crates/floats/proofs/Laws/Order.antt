@@ -15,6 +15,7 @@ use Rattle.floats.specs.Compare.{abs, is_negative}
 
 or_l : (a b : Bool) → T a → T (a || b)
 or_l true b t = tt
+or_l false b t = elim t [ ]
 
 or_r : (a b : Bool) → T b → T (a || b)
 or_r true b t = tt
@@ -79,7 +80,7 @@ level_is true true a d b e = (λ h. omega (arith, (alike (a * e) (b * d)).0 h), 
 abbrev pub number : Float → Bool
 number x = not (is_nan x)
 
-nan_or_number : (x : Float) → (x ≡ nan) ⊎ T (number x)
+pub nan_or_number : (x : Float) → (x ≡ nan) ⊎ T (number x)
 unfolding is_nan
 nan_or_number nan = inl refl
 nan_or_number (inf s) = inr tt
@@ -88,6 +89,8 @@ nan_or_number (fin s m e) = inr tt
 pub finite→number : (x : Float) → T (finite x) → T (number x)
 unfolding is_nan
 finite→number (fin s m e) p = tt
+finite→number nan p = elim p [ ]
+finite→number (inf _) p = elim p [ ]
 
 -- where a NaN stands, no comparison holds
 pub nan_left : (x : Float) → (lt nan x ≡ false) × (eq nan x ≡ false) × (le nan x ≡ false)
@@ -137,6 +140,10 @@ right x y = greater (is_negative x) (num x) (den x) (is_negative y) (num y) (den
 pub fraction_order : (x y : Float) → T (finite x) → T (finite y) → (T (lt x y) ↔ left x y < right x y) × (T (eq x y) ↔ left x y ≡ right x y)
 unfolding lt eq is_negative
 fraction_order (fin s m e) (fin t n d) p q = (below_is s t (m * up e) (down e) (n * up d) (down d), level_is s t (m * up e) (down e) (n * up d) (down d))
+fraction_order nan y p q = elim p [ ]
+fraction_order (inf _) y p q = elim p [ ]
+fraction_order (fin s m e) nan p q = elim q [ ]
+fraction_order (fin s m e) (inf _) p q = elim q [ ]
 
 pub le_iff : (x y : Float) → T (finite x) → T (finite y) → T (le x y) ↔ left x y ≤ right x y
 le_iff x y p q =
@@ -152,24 +159,28 @@ unfolding le is_nan
 inf_least (inf true) p = tt
 inf_least (inf false) p = tt
 inf_least (fin s m e) p = tt
+inf_least nan p = elim p [ ]
 
 pub inf_greatest : (x : Float) → T (number x) → T (le x (inf false))
 unfolding le is_nan
 inf_greatest (inf true) p = tt
 inf_greatest (inf false) p = tt
 inf_greatest (fin s m e) p = tt
+inf_greatest nan p = elim p [ ]
 
 pub least_only : (x : Float) → T (le x (inf true)) → x ≡ inf true
 unfolding le
 least_only (inf true) h = refl
+least_only nan h = elim h [ ]
+least_only (inf false) h = elim h [ ]
+least_only (fin _ _ _) h = elim h [ ]
 
 pub greatest_only : (x : Float) → T (le (inf false) x) → x ≡ inf false
 unfolding le
 greatest_only (inf false) h = refl
-
-pub lt_inf : (x : Float) → T (finite x) → T (lt x (inf false)) × T (lt (inf true) x)
-unfolding lt
-lt_inf (fin s m e) p = (tt, tt)
+greatest_only nan h = elim h [ ]
+greatest_only (inf true) h = elim h [ ]
+greatest_only (fin _ _ _) h = elim h [ ]
 
 -- ---- the order is total
 
@@ -189,6 +200,10 @@ lt_not_le (inf false) (fin t n d) p q = refl
 lt_not_le (fin s m e) (inf true) p q = refl
 lt_not_le (fin s m e) (inf false) p q = refl
 lt_not_le (fin s m e) (fin t n d) p q = finite_lt_not_le (fin s m e) (fin t n d) tt tt
+lt_not_le nan y p q = elim p [ ]
+lt_not_le (inf false) nan p q = elim q [ ]
+lt_not_le (inf true) nan p q = elim q [ ]
+lt_not_le (fin s m e) nan p q = elim q [ ]
 
 pub le_not_lt : (x y : Float) → T (number x) → T (number y) → le x y ≡ not (lt y x)
 le_not_lt x y p q = sym (not-not (le x y)) ∙ ap not (sym (lt_not_le y x q p))
@@ -206,8 +221,8 @@ le_or_lt x y p q = go (le x y) (lt_by y x q p)
     go true h = inl tt
     go false h = inr (h (λ t. t))
 
-pub le_refl : (x : Float) → T (number x) → T (le x x)
-le_refl x p = ⊎_elim (λ h. h) (lt→le x x) (le_or_lt x x p p)
+pub float_le_refl : (x : Float) → T (number x) → T (le x x)
+float_le_refl x p = ⊎_elim (λ h. h) (lt→le x x) (le_or_lt x x p p)
 
 -- ---- the order is transitive
 
@@ -221,19 +236,24 @@ through a a' p b b' q c c' r Q h k =
 finite_trans : (x y z : Float) → T (finite x) → T (finite y) → T (finite z) → T (le x y) → T (le y z) → T (le x z)
 finite_trans x y z p q r h k = (le_iff x z p r).1 (through _ _ (den x) _ _ (den y) _ _ (den z) (den_pos y) ((le_iff x y p q).0 h) ((le_iff y z q r).0 k))
 
-pub le_trans : (x y z : Float) → T (le x y) → T (le y z) → T (le x z)
+pub float_le_trans : (x y z : Float) → T (le x y) → T (le y z) → T (le x z)
 unfolding le
-le_trans (inf true) y z h k = inf_least z (le_numbers y z k).1
-le_trans (inf false) y z h k = subst (λ (w : Float). T (le w z)) (greatest_only y h) k
-le_trans (fin s m e) (inf false) z h k = subst (λ (w : Float). T (le (fin s m e) w)) (sym (greatest_only z k)) h
-le_trans (fin s m e) (fin t n d) (inf false) h k = tt
-le_trans (fin s m e) (fin t n d) (fin u l c) h k = finite_trans (fin s m e) (fin t n d) (fin u l c) tt tt tt h k
+float_le_trans (inf true) y z h k = inf_least z (le_numbers y z k).1
+float_le_trans (inf false) y z h k = subst (λ (w : Float). T (le w z)) (greatest_only y h) k
+float_le_trans (fin s m e) (inf false) z h k = subst (λ (w : Float). T (le (fin s m e) w)) (sym (greatest_only z k)) h
+float_le_trans (fin s m e) (fin t n d) (inf false) h k = tt
+float_le_trans (fin s m e) (fin t n d) (fin u l c) h k = finite_trans (fin s m e) (fin t n d) (fin u l c) tt tt tt h k
+float_le_trans nan y z h k = elim h [ ]
+float_le_trans (fin s m e) nan z h k = elim h [ ]
+float_le_trans (fin s m e) (inf true) z h k = elim h [ ]
+float_le_trans (fin s m e) (fin t n d) nan h k = elim k [ ]
+float_le_trans (fin s m e) (fin t n d) (inf true) h k = elim k [ ]
 
 pub lt_le_trans : (x y z : Float) → T (lt x y) → T (le y z) → T (lt x z)
-lt_le_trans x y z h k = lt_by x z (lt_numbers x y h).0 (le_numbers y z k).1 (λ g. lt_excludes x y h (le_trans y z x k g))
+lt_le_trans x y z h k = lt_by x z (lt_numbers x y h).0 (le_numbers y z k).1 (λ g. lt_excludes x y h (float_le_trans y z x k g))
 
 pub le_lt_trans : (x y z : Float) → T (le x y) → T (lt y z) → T (lt x z)
-le_lt_trans x y z h k = lt_by x z (le_numbers x y h).0 (lt_numbers y z k).1 (λ g. lt_excludes y z k (le_trans z x y g h))
+le_lt_trans x y z h k = lt_by x z (le_numbers x y h).0 (lt_numbers y z k).1 (λ g. lt_excludes y z k (float_le_trans z x y g h))
 
 pub lt_trans : (x y z : Float) → T (lt x y) → T (lt y z) → T (lt x z)
 lt_trans x y z h k = lt_le_trans x y z h (lt→le y z k)
@@ -241,44 +261,35 @@ lt_trans x y z h k = lt_le_trans x y z h (lt→le y z k)
 pub lt_irrefl : (x : Float) → T (lt x x) → ⊥
 lt_irrefl x h = lt_excludes x x h (lt→le x x h)
 
-pub lt_asym : (x y : Float) → T (lt x y) → T (lt y x) → ⊥
-lt_asym x y h k = lt_excludes x y h (lt→le y x k)
-
 -- ---- equal values
 
-pub le_antisymm : (x y : Float) → T (le x y) → T (le y x) → T (eq x y)
-le_antisymm x y h k = ⊎_elim (λ l. absurd (lt_excludes x y l k)) (λ l. l) (le_split x y h)
+pub float_le_antisymm : (x y : Float) → T (le x y) → T (le y x) → T (eq x y)
+float_le_antisymm x y h k = ⊎_elim (λ l. absurd (lt_excludes x y l k)) (λ l. l) (le_split x y h)
 
 same_sign : (s t : Bool) → T (beq s t) → s ≡ t
 same_sign true true h = refl
 same_sign false false h = refl
+same_sign false true h = elim h [ ]
+same_sign true false h = elim h [ ]
 
 pub eq→ge : (x y : Float) → T (eq x y) → T (le y x)
 unfolding eq
-eq→ge (inf s) (inf t) h = subst (λ (u : Bool). T (le (inf u) (inf s))) (same_sign s t h) (le_refl (inf s) (unfold is_nan in tt))
+eq→ge (inf s) (inf t) h = subst (λ (u : Bool). T (le (inf u) (inf s))) (same_sign s t h) (float_le_refl (inf s) (unfold is_nan in tt))
 eq→ge (fin s m e) (fin t n d) h = (le_iff (fin t n d) (fin s m e) tt tt).1 (le_of_eq (sym ((fraction_order (fin s m e) (fin t n d) tt tt).1.0 h)))
+eq→ge nan y h = elim h [ ]
+eq→ge (inf s) nan h = elim h [ ]
+eq→ge (inf s) (fin t n d) h = elim h [ ]
+eq→ge (fin s m e) nan h = elim h [ ]
+eq→ge (fin s m e) (inf t) h = elim h [ ]
 
 pub eq_refl : (x : Float) → T (number x) → T (eq x x)
-eq_refl x p = le_antisymm x x (le_refl x p) (le_refl x p)
+eq_refl x p = float_le_antisymm x x (float_le_refl x p) (float_le_refl x p)
 
 pub eq_sym : (x y : Float) → T (eq x y) → T (eq y x)
-eq_sym x y h = le_antisymm y x (eq→ge x y h) (eq→le x y h)
+eq_sym x y h = float_le_antisymm y x (eq→ge x y h) (eq→le x y h)
 
 pub eq_trans : (x y z : Float) → T (eq x y) → T (eq y z) → T (eq x z)
-eq_trans x y z h k = le_antisymm x z (le_trans x y z (eq→le x y h) (eq→le y z k)) (le_trans z y x (eq→ge y z k) (eq→ge x y h))
-
--- a comparison does not tell equal values apart
-pub le_respects_eq : (x x' y y' : Float) → T (eq x x') → T (eq y y') → le x y ≡ le x' y'
-le_respects_eq x x' y y' h k =
-    same_test (le x y) (le x' y')
-    (λ l. le_trans x' x y' (eq→ge x x' h) (le_trans x y y' l (eq→le y y' k)))
-    (λ l. le_trans x x' y (eq→le x x' h) (le_trans x' y' y l (eq→ge y y' k)))
-
-pub lt_respects_eq : (x x' y y' : Float) → T (eq x x') → T (eq y y') → lt x y ≡ lt x' y'
-lt_respects_eq x x' y y' h k =
-    lt_not_le x y (eq_numbers x x' h).0 (eq_numbers y y' k).0
-    ∙ ap not (le_respects_eq y y' x x' k h)
-    ∙ sym (lt_not_le x' y' (eq_numbers x x' h).1 (eq_numbers y y' k).1)
+eq_trans x y z h k = float_le_antisymm x z (float_le_trans x y z (eq→le x y h) (eq→le y z k)) (float_le_trans z y x (eq→ge y z k) (eq→ge x y h))
 
 -- ---- zero, and signs
 
@@ -296,19 +307,27 @@ pub negative_below : (x : Float) → T (is_negative x) → T (le x -0)
 unfolding le is_negative
 negative_below (inf true) s = tt
 negative_below (fin true m e) s = (le_iff (fin true m e) -0 tt tt).1 (omega arith)
+negative_below nan s = elim s [ ]
+negative_below (inf false) s = elim s [ ]
+negative_below (fin false m e) s = elim s [ ]
 
 pub positive_above : (x : Float) → T (number x) → T (not (is_negative x)) → T (le +0 x)
 unfolding le is_negative is_nan
 positive_above (inf false) p s = tt
 positive_above (fin false m e) p s = (le_iff +0 (fin false m e) tt tt).1 (omega arith)
+positive_above nan p s = elim p [ ]
+positive_above (inf true) p s = elim s [ ]
+positive_above (fin true m e) p s = elim s [ ]
 
 -- ---- equal values that a format holds are the same data, but for a zero's sign
 
 eq_sizes : (s : Bool) (m : ℕ) (e : ℤ) (t : Bool) (n : ℕ) (d : ℤ) → T (eq (fin s m e) (fin t n d)) → m * up e * down d ≡ n * up d * down e
 unfolding eq
-eq_sizes s m e t n d h = eqb→eq (m * up e * down d) (n * up d * down e) (and_l (eqb (m * up e * down d) (n * up d * down e)) (beq s t || eqb (m * up e * down d) 0) h)
+eq_sizes s m e t n d h =
+    eqb→eq (m * up e * down d) (n * up d * down e) (and_l (eqb (m * up e * down d) (n * up d * down e)) (beq s t || eqb (m * up e * down d) 0) h)
 
-same_bits : (f : Format) (s t : Bool) (m : ℕ) (e : ℤ) (n : ℕ) (d : ℤ) → s ≡ t → m * up e * down d ≡ n * up d * down e → to_bits f (fin s m e) ≡ to_bits f (fin t n d)
+same_bits : (f : Format) (s t : Bool) (m : ℕ) (e : ℤ) (n : ℕ) (d : ℤ) → s ≡ t → m * up e * down d ≡ n * up d * down e
+    → to_bits f (fin s m e) ≡ to_bits f (fin t n d)
 unfolding to_bits
 same_bits f s t m e n d p h =
     ap (λ (u : Bool). to_bits f (fin u m e)) p
@@ -321,6 +340,11 @@ unfolding is_negative eq
 eq→same f (inf s) (inf t) p q h e = ap inf e
 eq→same f (fin s m c) (fin t n d) p q h e =
     sym (of_bits-to_bits f (fin s m c) p) ∙ ap (of_bits f) (same_bits f s t m c n d e (eq_sizes s m c t n d h)) ∙ of_bits-to_bits f (fin t n d) q
+eq→same f nan y p q h e = elim h [ ]
+eq→same f (inf s) nan p q h e = elim h [ ]
+eq→same f (inf s) (fin t n d) p q h e = elim h [ ]
+eq→same f (fin s m c) nan p q h e = elim h [ ]
+eq→same f (fin s m c) (inf t) p q h e = elim h [ ]
 
 pub eq→same_nonzero : (f : Format) (x y : Float) → T (fits f x) → T (fits f y) → T (eq x y) → T (not (eq x +0)) → x ≡ y
 eq→same_nonzero f x y p q h z =
@@ -328,12 +352,12 @@ eq→same_nonzero f x y p q h z =
     (go (is_negative x) (is_negative y) (negative_below x) (negative_below y) (positive_above x (eq_numbers x y h).0) (positive_above y (eq_numbers x y h).1))
   where
     no_zero : T (le x +0) → T (le +0 x) → ⊥
-    no_zero a b = T_not (eq x +0) z (le_antisymm x +0 a b)
+    no_zero a b = T_not (eq x +0) z (float_le_antisymm x +0 a b)
 
     go : (s t : Bool) → (T s → T (le x -0)) → (T t → T (le y -0)) → (T (not s) → T (le +0 x)) → (T (not t) → T (le +0 y)) → s ≡ t
     go true true a b c d = refl
-    go true false a b c d = absurd (no_zero (le_trans x -0 +0 (a tt) (eq→le -0 +0 zeros_equal)) (le_trans +0 y x (d tt) (eq→ge x y h)))
-    go false true a b c d = absurd (no_zero (le_trans x y +0 (eq→le x y h) (le_trans y -0 +0 (b tt) (eq→le -0 +0 zeros_equal))) (c tt))
+    go true false a b c d = absurd (no_zero (float_le_trans x -0 +0 (a tt) (eq→le -0 +0 zeros_equal)) (float_le_trans +0 y x (d tt) (eq→ge x y h)))
+    go false true a b c d = absurd (no_zero (float_le_trans x y +0 (eq→le x y h) (float_le_trans y -0 +0 (b tt) (eq→le -0 +0 zeros_equal))) (c tt))
     go false false a b c d = refl
 
 -- ---- `neg` turns the order round
@@ -390,9 +414,6 @@ neg_le x y h =
 pub le_neg : (x y : Float) → le (neg x) (neg y) ≡ le y x
 le_neg x y = same_test (le (neg x) (neg y)) (le y x) (λ h. rw (neg_neg, neg_neg) at (neg_le (neg x) (neg y) h)) (neg_le y x)
 
-pub neg_eq : (x y : Float) → T (eq x y) → T (eq (neg x) (neg y))
-neg_eq x y h = le_antisymm (neg x) (neg y) (neg_le y x (eq→ge x y h)) (neg_le x y (eq→le x y h))
-
 -- ---- the size
 
 pub abs_finite : (x : Float) → finite (abs x) ≡ finite x
@@ -442,8 +463,8 @@ pub le_abs : (x : Float) → T (number x) → T (le x (abs x))
 le_abs x p = go (is_negative x) (negative_below x) (abs_is x)
   where
     go : (s : Bool) → (T s → T (le x -0)) → abs x ≡ cond s (neg x) x → T (le x (abs x))
-    go true h e = le_trans x -0 (abs x) (h tt) (le_trans -0 +0 (abs x) (eq→le -0 +0 zeros_equal) (abs_above_zero x p))
-    go false h e = subst (λ (y : Float). T (le x y)) (sym e) (le_refl x p)
+    go true h e = float_le_trans x -0 (abs x) (h tt) (float_le_trans -0 +0 (abs x) (eq→le -0 +0 zeros_equal) (abs_above_zero x p))
+    go false h e = subst (λ (y : Float). T (le x y)) (sym e) (float_le_refl x p)
 
 pub neg_le_abs : (x : Float) → T (number x) → T (le (neg x) (abs x))
 neg_le_abs x p = rw abs_neg at (le_abs (neg x) (subst T (sym (neg_number x)) p))
@@ -454,7 +475,7 @@ abs_le x b = (split, λ h. join (is_negative x) (abs_is x) h.0 h.1)
     split : T (le (abs x) b) → T (le (neg b) x) × T (le x b)
     split h =
         let p : T (number x) = subst T (abs_number x) (le_numbers (abs x) b h).0 in
-        (rw neg_neg at (neg_le (neg x) b (le_trans (neg x) (abs x) b (neg_le_abs x p) h)), le_trans x (abs x) b (le_abs x p) h)
+        (rw neg_neg at (neg_le (neg x) b (float_le_trans (neg x) (abs x) b (neg_le_abs x p) h)), float_le_trans x (abs x) b (le_abs x p) h)
 
     join : (s : Bool) → abs x ≡ cond s (neg x) x → T (le (neg b) x) → T (le x b) → T (le (abs x) b)
     join true e h k = rw (e, ← neg_neg b) (neg_le (neg b) x h)

@@ -11,7 +11,8 @@ use borrow.Author.Tests.{lt-leb}
 use Rattle.floats.specs.Compare.{abs, is_negative}
 use Rattle.floats.proofs.Laws.Sign.{sign_bit, size_below_top, clear_sign}
 use Rattle.floats.proofs.Laws.Special.{up_to_infinity}
-use Rattle.floats.proofs.Laws.Order.{abs_is, eq→le, eq→ge, eq_refl, lt_irrefl, number, le_or_lt, lt→le, le_iff, le_not_lt, abs_fits, abs_number, le_refl, same_test}
+use Rattle.floats.proofs.Laws.Round.{twice_pow}
+use Rattle.floats.proofs.Laws.Order.{abs_is, eq→le, eq→ge, eq_refl, lt_irrefl, number, le_or_lt, lt→le, le_iff, le_not_lt, abs_fits, abs_number, float_le_refl, same_test}
 
 -- ---- the pattern of n units of the smallest value, in a format with significands of p digits
 abbrev dropped : ℕ → ℕ → ℕ
@@ -22,12 +23,6 @@ pattern p n = dropped p n * 2 ^ (p - 1) + n / 2 ^ dropped p n
 
 size_mono : (m n : ℕ) → m ≤ n → size m ≤ size n
 size_mono m n h = size-le m (size n) (lt_of_le_of_lt h (size-lt n))
-
-doubled : (p : ℕ) → 0 < p → 2 ^ p ≡ 2 ^ (p - 1) * 2
-doubled p h = ap (λ (k : ℕ). 2 ^ k) (one_less p h) ∙ pow-add 2 (p - 1) 1
-  where
-    one_less : (q : ℕ) → 0 < q → q ≡ q - 1 + 1
-    one_less q l = omega arith
 
 -- where digits are dropped, those that are kept begin with a one
 leading : (p n : ℕ) → 0 < p → 0 < dropped p n → 2 ^ (p - 1) ≤ n / 2 ^ dropped p n
@@ -45,13 +40,13 @@ pattern_mono p m n P h = ⊎_elim same more (eq-or-lt_of_le (sizes (size m) (siz
     same : dropped p m ≡ dropped p n → pattern p m ≤ pattern p n
     same e = rw e (add-le-add (ℕLeRefl (dropped p n * 2 ^ (p - 1))) (shr_mono (dropped p n) h))
 
-    over : (j k w a b : ℕ) → j < k → a < w * 2 → w ≤ b → j * w + a ≤ k * w + b
+    over : (j k w a b : ℕ) → j < k → a < 2 * w → w ≤ b → j * w + a ≤ k * w + b
     over j k w a b l l' l'' = omega (arith, mul-le-mul_right w l, suc-mul j w)
 
     more : dropped p m < dropped p n → pattern p m ≤ pattern p n
     more l =
         over (dropped p m) (dropped p n) (2 ^ (p - 1)) (m / 2 ^ dropped p m) (n / 2 ^ dropped p n) l
-        (lt_of_lt_of_le (kept-lt p m) (le_of_eq (doubled p P)))
+        (lt_of_lt_of_le (kept-lt p m) (le_of_eq (twice_pow p P)))
         (leading p n P (lt_of_le_of_lt zero-le l))
 
 -- ---- finite sizes, and the infinity
@@ -67,9 +62,10 @@ finite_mono f m e n d h = simp zero-add (pattern_mono (prec f) (m * up e * 2 ^ l
     scaled a b c k u l = simp (mul_right_comm a u b, mul_right_comm c u k) (mul-le-mul_right u l)
 
 pub size_no_nan : (f : Format) (x : Float) → T (fits f x) → T (number x) → nan_bits f (to_bits f (abs x)) ≡ false
-size_no_nan f x p n = nan_bits_is f (to_bits f (abs x)) ∙ ap is_nan (of_bits-to_bits f (abs x) (abs_fits f x p)) ∙ is_false (is_nan (abs x)) (subst T (sym (abs_number x)) n)
+size_no_nan f x p n =
+    nan_bits_is f (to_bits f (abs x)) ∙ ap is_nan (of_bits-to_bits f (abs x) (abs_fits f x p)) ∙ is_false (is_nan (abs x)) (subst T (sym (abs_number x)) n)
 
-up_to_infinite : (f : Format) (x : Float) → T (fits f x) → T (number x) → to_bits f (abs x) ≤ ones f * hid f
+pub up_to_infinite : (f : Format) (x : Float) → T (fits f x) → T (number x) → to_bits f (abs x) ≤ ones f * hid f
 up_to_infinite f x p n =
     let b = to_bits f (abs x) in
     le_trans (le_of_eq (sym (mod-eq_of_lt (size_below_top f x p)))) (ltb-false (ones f * hid f) (b % top f) (sym (nan_bits_above f b) ∙ size_no_nan f x p n))
@@ -83,6 +79,10 @@ unfolding abs to_bits lt eq le is_nan
 pattern_of_le f (inf s) (inf t) p q h = ℕLeRefl (0 + ones f * hid f)
 pattern_of_le f (fin s m e) (inf t) p q h = le_trans (up_to_infinite f (fin s m e) p tt) (le_of_eq (sym (zero-add (ones f * hid f))))
 pattern_of_le f (fin s m e) (fin t n d) p q h = finite_mono f m e n d (cross m e n d h)
+pattern_of_le f nan y p q h = elim h [ ]
+pattern_of_le f (inf s) nan p q h = elim h [ ]
+pattern_of_le f (inf s) (fin t n d) p q h = elim h [ ]
+pattern_of_le f (fin s m e) nan p q h = elim h [ ]
 
 -- a NaN's pattern is above that of every size
 only_numbers : (f : Format) (x y : Float) → T (fits f y) → T (number y) → to_bits f (abs x) ≤ to_bits f (abs y) → T (number x)
@@ -104,7 +104,7 @@ le_of_pattern f x y p q n h =
     ⊎_elim (λ l. l)
     (λ l.
     let e : abs x ≡ abs y = same_pattern f x y p q (le_antisymm h (pattern_of_le f y x q p (lt→le (abs y) (abs x) l))) in
-    subst (λ (z : Float). T (le (abs x) z)) e (le_refl (abs x) m))
+    subst (λ (z : Float). T (le (abs x) z)) e (float_le_refl (abs x) m))
     (le_or_lt (abs x) (abs y) m (subst T (sym (abs_number y)) n))
 
 -- ---- a size against the float of a pattern that is at most the infinity's

@@ -1,4 +1,4 @@
--- How the code tells a NaN, an infinity and a zero: by comparing x with itself, by x - x, and by the pattern. Assumes nothing.
+-- How the code tells a NaN and an infinity: by comparing x with itself, by x - x, and by the pattern. Assumes nothing.
 use Rattle.std.proofs.Common.{◌≡◌, ℕ, ◌*◌, ◌%◌, ◌<◌, ◌≤◌, true, false, pos, sym, refl, ◌∙◌, le-ltb, lt-ltb, eq-eqb}
 use mathlib.Core.Bool.{false≢true}
 use lib.Ieee.{Float, nan, inf, fin, Format, binary32, up, down, hid, ones, top, is_nan, nan_bits, of_bits, sub, div, eq, ne}

@@ -4,7 +4,7 @@ use Rattle.std.proofs.Common.{◌≡◌, ℕ, suc, ◌+◌, ◌-◌, ◌*◌, �
 use native.Mathlib.Nat.{mul-sub}
 use native.Mathlib.Nat.{eq_of_mul-eq-mul_right}
 use lib.Dec.{nleb→lt}
-use lib.Ieee.{Float, fin, Format, emax, low, up, down, round, neg, add, sub, le, fits}
+use lib.Ieee.{Float, fin, Format, emax, low, up, down, round, neg, add, sub, le, fits, inf, nan}
 use lib.Ieee.Exact.{HasValue}
 use lib.Ieee.Fits.{up_pos, down_pos, neg-fits}
 use lib.Ieee.Positive.{num, den, positive, den_pos, own_value, value_pos}
@@ -73,6 +73,10 @@ distance_exact f z (fin s' m e) (fin t' n d) s a t b c C p q v w h k =
     go false l g =
         subst (λ (i : ℕ). HasValue (round f z i c) z i c) (add_comm (b - a) (a - b))
         (finer_exact f z n d m e b a c (fits→holds f t' n d q) C w.1 v.1 (le_of_lt (g tt)) (omega arith))
+distance_exact f z nan y s a t b c C p q v w h k = elim v [ ]
+distance_exact f z (inf _) y s a t b c C p q v w h k = elim v [ ]
+distance_exact f z (fin s' m e) nan s a t b c C p q v w h k = elim w [ ]
+distance_exact f z (fin s' m e) (inf _) s a t b c C p q v w h k = elim w [ ]
 
 -- Sterbenz's lemma, for a sum of opposite signs and for a difference of like signs
 pub sterbenz_add : (f : Format) (x y : Float) (s : Bool) (a b c : ℕ) → 0 < c → T (fits f x) → T (fits f y)
@@ -136,9 +140,13 @@ double_exact f (fin t n d) q w h =
     (round_held f false n (2 * up d) (down d) n (n * up d + n * up d) (down d) (mul_power 2 (up d) (1, refl) (up_power d)) (down_power d)
     (record { digits = k.digits; lowest = low_enough; under = subst (λ (z : ℕ). z < 2 ^ suc (emax f) * down d) (double n (up d)) h })
     (le_refl n) (down_pos d) (ap (λ (z : ℕ). z * down d) (double n (up d))))
+double_exact f nan q w h = elim w [ ]
+double_exact f (inf _) q w h = elim w [ ]
 
 under_top : (f : Format) (x : Float) → T (fits f x) → T (positive x) → num x < 2 ^ suc (emax f) * den x
 under_top f (fin s m e) p X = (fits→holds f s m e p).under
+under_top f nan p X = elim X [ ]
+under_top f (inf _) p X = elim X [ ]
 
 -- What is at most y + y is at most 2 y: where 2 y is below a value of the format, y + y is exact.
 at_most_double : (f : Format) (x y : Float) → T (fits f x) → T (fits f y) → T (positive x) → T (positive y) → T (le x (add f y y))

@@ -1,6 +1,6 @@
--- Wind memory: what holds of it from a fresh one on, what a priming leaves of it, and when an update leaves all of it. Assumes nothing.
-use mathlib.Core.Path.{◌≡◌, refl, ◌∙◌}
-use mathlib.Core.Bool.{Bool, true, false, cond}
+-- Wind memory: what a priming leaves of it, when an update leaves all of it, and what holds of a fresh one and after each operation. Assumes nothing.
+use mathlib.Core.Path.{◌≡◌, ◌∙◌}
+use mathlib.Core.Bool.{true, false}
 use lib.Ieee.{Float, lt}
 use lib.Ieee.Scale.{finite}
 use Rattle.floats.specs.Ops.{◌⊕◌}
@@ -11,58 +11,11 @@ use Rattle.heading.specs.declared.hover_wind.HoverWind.{HoverWind}
 use Rattle.wind.specs.Drag.{is_on}
 use Rattle.wind.specs.Wind as wind
 use Rattle.heading.specs.HoverWind.{FiniteGround, latched, above, airborne, fresh, prime, update}
+use Rattle.math.proofs.Laws.Cases.{cond_holds}
 use Rattle.wind.proofs.Laws.Sample.{either_way, Unusable, unusable_skipped}
-use Rattle.wind.specs.Window.{Accepted, OpenWindow}
+use Rattle.controllers.specs.RateDivider.{Accepted}
+use Rattle.wind.specs.Window.{OpenWindow}
 use Rattle.wind.proofs.Laws.Window.{fresh_open, update_open}
-
--- ---- what holds of wind memory
-
--- an open window, and ground that is none or a finite height
-pub record Sound (self : HoverWind) : Type 0 where
-  pub window : OpenWindow self.estimator.window
-  pub ground : FiniteGround self.ground_altitude_m
-
-pub latched_finite : (altitude : Float) → FiniteGround (latched altitude)
-unfolding latched
-latched_finite altitude = go (finite altitude) refl
-  where
-    go : (b : Bool) → finite altitude ≡ b → FiniteGround (cond b (Metres altitude) Nothing)
-    go true e = rw e tt
-    go false e = tt
-
-pub fresh_sound : Sound fresh
-unfolding fresh
-fresh_sound = record { window = fresh_open; ground = tt }
-
-pub prime_sound : (self : HoverWind) (height : Float) (state : VehicleState) → Sound self → Sound (prime self height state)
-unfolding prime
-prime_sound self height state s = go (airborne self height state)
-  where
-    go : (b : Bool) → Sound (cond b self (record { estimator = wind.fresh; ground_altitude_m = latched state.position_m.z }))
-    go true = s
-    go false = record { window = fresh_open; ground = latched_finite state.position_m.z }
-
-pub update_sound : (self : HoverWind) (dt : Float) (config : WindConfig) (height : Float) (state : VehicleState) → Sound self → Accepted dt
-    → Sound (update self dt config height state)
-unfolding update
-update_sound self dt config height state s a = go (airborne self height state)
-  where
-    go : (b : Bool)
-        → Sound (cond b (record { estimator = wind.update self.estimator dt config state; ground_altitude_m = self.ground_altitude_m }) self)
-    go true = record { window = update_open self.estimator dt config state s.window a; ground = s.ground }
-    go false = s
-
--- the memories that primings and updates with accepted time steps lead to
-pub data Reached : HoverWind → Type 0 where
-  start : Reached fresh
-  primed : {self : HoverWind} (height : Float) (state : VehicleState) → Reached self → Reached (prime self height state)
-  updated : {self : HoverWind} (dt : Float) (config : WindConfig) (height : Float) (state : VehicleState) → Accepted dt → Reached self
-      → Reached (update self dt config height state)
-
-pub reached_sound : {self : HoverWind} → Reached self → Sound self
-reached_sound start = fresh_sound
-reached_sound (primed {self} height state r) = prime_sound self height state (reached_sound r)
-reached_sound (updated {self} dt config height state a r) = update_sound self dt config height state (reached_sound r) a
 
 -- ---- in the air
 
@@ -126,3 +79,31 @@ unfolding wind.update wind.taken
 update_unusable self dt config height state u =
     kept self dt config height state
     (rw (unusable_skipped state config.max_axial_speed_mps u) (either_way (is_on config) self.estimator))
+
+-- ---- what holds of wind memory
+
+-- an open window, and ground that is none or a finite height
+pub record Sound (self : HoverWind) : Type 0 where
+  pub window : OpenWindow self.estimator.window
+  pub ground : FiniteGround self.ground_altitude_m
+
+pub latched_finite : (altitude : Float) → FiniteGround (latched altitude)
+unfolding latched
+latched_finite altitude = cond_holds FiniteGround (finite altitude) (λ t. t) (λ _. tt)
+
+pub fresh_sound : Sound fresh
+unfolding fresh
+fresh_sound = record { window = fresh_open; ground = tt }
+
+pub prime_sound : (self : HoverWind) (height : Float) (state : VehicleState) → Sound self → Sound (prime self height state)
+unfolding prime
+prime_sound self height state s =
+    cond_holds Sound (airborne self height state) (λ _. s) (λ _. record { window = fresh_open; ground = latched_finite state.position_m.z })
+
+pub update_sound : (self : HoverWind) (dt : Float) (config : WindConfig) (height : Float) (state : VehicleState) → Sound self → Accepted dt
+    → Sound (update self dt config height state)
+unfolding update
+update_sound self dt config height state s a =
+    cond_holds Sound (airborne self height state)
+    (λ _. record { window = update_open self.estimator dt config state s.window a; ground = s.ground })
+    (λ _. s)

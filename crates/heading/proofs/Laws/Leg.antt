@@ -7,7 +7,7 @@ use Rattle.math.specs.Math.{zero, all_finite}
 use Rattle.math.specs.declared.vectors.Vec2.{Vec2}
 use Rattle.wind.specs.declared.state.VehicleState.{VehicleState}
 use Rattle.wind.specs.declared.window.Filter.{Filter}
-use Rattle.altitude.proofs.Laws.Cases.{cond_holds}
+use Rattle.math.proofs.Laws.Cases.{cond_holds}
 use Rattle.heading.specs.declared.HeadingConfig.{HeadingConfig}
 use Rattle.heading.specs.declared.Angle.{Angle}
 use Rattle.heading.specs.declared.Angle.TheVariants.{Nothing, Rad}
@@ -19,7 +19,6 @@ use Rattle.heading.specs.declared.leg_heading.LegHeading.{LegHeading}
 use Rattle.heading.specs.declared.leg_heading.Turn.{Turn}
 use Rattle.heading.specs.declared.leg_heading.Bearing.{Bearing}
 use Rattle.heading.specs.declared.leg_heading.Yielded.{Yielded}
-use Rattle.heading.specs.Equality.{same_vector}
 use Rattle.heading.specs.LegHeading.{New, started, fresh, cleared, with_wind, on_leg, new_leg, bearing_of, bearing, may_yield, stuck_for, counted}
 use Rattle.heading.specs.LegHeading.{yielded, along_leg, wind_or_leg, here_of, wind_turn, uncommanded, finite_angle, target}
 use Rattle.heading.proofs.Laws.Equality.{vector_numbers, vector_same_itself, nan_vector_differs}
@@ -31,12 +30,10 @@ pub nan_position_off_leg : (leg : Leg) (position : Vec2) → vector_numbers posi
 unfolding on_leg
 nan_position_off_leg leg position = nan_vector_differs leg.to_m position
 
-pub same_position_on_leg : (leg : Leg) (position : Vec2) → same_vector leg.to_m position ≡ true → on_leg leg position ≡ true
-unfolding on_leg
-same_position_on_leg leg position e = e
-
+-- the leg's own position, with no NaN in it, is
 pub own_position_on_leg : (leg : Leg) → vector_numbers leg.to_m ≡ true → on_leg leg leg.to_m ≡ true
-own_position_on_leg leg e = same_position_on_leg leg leg.to_m (vector_same_itself leg.to_m ∙ e)
+unfolding on_leg
+own_position_on_leg leg e = vector_same_itself leg.to_m ∙ e
 
 -- ---- which positions are new
 
@@ -72,7 +69,8 @@ module _ (self : LegHeading) (config : HeadingConfig) (position here : Vec2) whe
       cond_holds (λ (b : Bearing). (b.memory.stuck_s ≡ zero) × (b.memory.yielding ≡ false)) (all_finite here) (λ _. (refl, refl)) (λ _. (refl, refl))
 
   pub new_leg_starts : all_finite here ≡ true
-      → (new_leg self config position here).memory ≡ record { leg = legs.Flown (started config position here); stuck_s = zero; yielding = false; wind = self.wind }
+      → (new_leg self config position here).memory
+      ≡ record { leg = legs.Flown (started config position here); stuck_s = zero; yielding = false; wind = self.wind }
   unfolding new_leg
   new_leg_starts e = rw e
 
@@ -80,7 +78,7 @@ module _ (self : LegHeading) (config : HeadingConfig) (position here : Vec2) whe
   unfolding new_leg
   new_leg_none e = rw e
 
-  -- of what was remembered only the wind's side counts
+  -- of what was remembered only the wind heading counts
   pub bearing_as_cleared : New self.leg position → bearing self config position here ≡ bearing (cleared self) config position here
   unfolding bearing cleared new_leg
   bearing_as_cleared n = bearing_new n
@@ -98,10 +96,6 @@ pub record Call : Type 0 where
 -- with no finite commanded heading
 abbrev pub Uncommanded : Call → Type 0
 Uncommanded call = finite_angle call.commanded ≡ Nothing
-
-pub no_heading_uncommanded : finite_angle Nothing ≡ Nothing
-unfolding finite_angle
-no_heading_uncommanded = refl
 
 pub not_finite_uncommanded : (heading : Float) → finite heading ≡ false → finite_angle (Rad heading) ≡ Nothing
 unfolding finite_angle
@@ -150,7 +144,8 @@ module _ (config : HeadingConfig) (self : LegHeading) (call : Call) where
     unfolding target uncommanded
     call_uncommanded = rw none
 
-    kept : ((called config self call).memory.leg ≡ (leg_of config self call).memory.leg) × ((called config self call).memory.wind ≡ (wind_of config self call).wind)
+    kept : ((called config self call).memory.leg ≡ (leg_of config self call).memory.leg)
+        × ((called config self call).memory.wind ≡ (wind_of config self call).wind)
     unfolding with_wind
     kept =
         rw call_uncommanded
@@ -184,9 +179,7 @@ module _ (config : HeadingConfig) (self : LegHeading) (call : Call) where
       new_position_no_leg e =
           rw (call_leg, bearing_new self config call.position (here_of call.state) new, new_leg_none self config call.position (here_of call.state) e)
 
-    pub nan_position_as_cleared : vector_numbers call.position ≡ false → called config self call ≡ called config (cleared self) call
-    nan_position_as_cleared e = new_position_as_cleared (nan_position_new self.leg call.position e)
-
     -- on the leg it is kept
-    pub call_on_leg : (leg : Leg) → self.leg ≡ legs.Flown leg → on_leg leg call.position ≡ true → (called config self call).memory.leg ≡ legs.Flown leg
+    pub call_on_leg : (leg : Leg) → self.leg ≡ legs.Flown leg → on_leg leg call.position ≡ true
+        → (called config self call).memory.leg ≡ legs.Flown leg
     call_on_leg leg e o = rw (call_leg, bearing_on_leg self config call.position (here_of call.state) leg e o) e

@@ -9,8 +9,8 @@ use Rattle.math.specs.Vectors.{minus}
 use Rattle.math.specs.declared.vectors.Vec2.{Vec2}
 use Rattle.wind.specs.declared.state.VehicleState.{VehicleState}
 use Rattle.wind.specs.declared.window.Filter.{Filter}
-use Rattle.altitude.proofs.Laws.Cases.{cond_holds}
-use Rattle.altitude.proofs.Laws.Feed.{kept_by_calls}
+use Rattle.math.proofs.Laws.Cases.{cond_holds}
+use Rattle.math.proofs.Laws.Feed.{kept_by_calls}
 use Rattle.heading.specs.declared.HeadingConfig.{HeadingConfig}
 use Rattle.heading.specs.declared.Angle.{Angle}
 use Rattle.heading.specs.declared.Angle.TheVariants.{Nothing, Rad}
@@ -21,7 +21,8 @@ use Rattle.heading.specs.declared.leg_heading.LegMemory.TheVariants as legs
 use Rattle.heading.specs.declared.leg_heading.LegHeading.{LegHeading}
 use Rattle.heading.specs.declared.leg_heading.Bearing.{Bearing}
 use Rattle.heading.specs.WindHeading as wind
-use Rattle.heading.specs.LegHeading.{fresh, cleared, with_wind, on_leg, new_leg, bearing_of, bearing, on_station, here_of, station_turn, held_or_turned, land_target}
+use Rattle.heading.specs.LegHeading.{fresh, cleared, with_wind, on_leg, new_leg, bearing_of, bearing, on_station, here_of, station_turn}
+use Rattle.heading.specs.LegHeading.{held_or_turned, land_target}
 use Rattle.heading.proofs.Laws.WindHeading.{target_keeps_side}
 use Rattle.heading.proofs.Laws.Leg.{Call, Uncommanded, called, leg_of, call_wind}
 

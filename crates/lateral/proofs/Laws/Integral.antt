@@ -13,9 +13,9 @@ use Rattle.math.specs.Vectors.{plus, times, dot, norm}
 use Rattle.math.specs.declared.vectors.Vec2.{Vec2}
 use Rattle.math.proofs.Laws.Cap.{cap_finite}
 use Rattle.controllers.specs.Checks.{check_limit}
-use Rattle.altitude.proofs.Laws.Cases.{cond_holds}
-use Rattle.altitude.proofs.Laws.Feed.{kept_by_calls}
-use Rattle.altitude.proofs.Laws.Within.{Within, within→number, within→finite, zero_within, clamped_within}
+use Rattle.math.proofs.Laws.Cases.{cond_holds}
+use Rattle.math.proofs.Laws.Feed.{kept_by_calls}
+use Rattle.controllers.proofs.Laws.Within.{Within, within→number, within→finite, zero_within, clamped_within}
 use Rattle.lateral.specs.declared.LateralControllerConfig.{LateralControllerConfig}
 use Rattle.lateral.specs.declared.LateralTarget.{LateralTarget}
 use Rattle.lateral.specs.declared.LateralEstimate.{LateralEstimate}
@@ -60,9 +60,10 @@ module _ (config : LateralControllerConfig) (allowed : T (check_limit config.max
   each_clamped_within v n = (clamped_within max_integral allowed v.x n.0, clamped_within max_integral allowed v.y n.1)
 
   pub tracked_within : (self : LateralController) (dt : Float) (shaping : Shaping) (error limit : Vec2) → T (finite dt) → T (all_finite error)
-      → Each (Within max_integral) self.integrated_error → Each (Within max_integral) (tracked self config dt shaping error limit).controller.integrated_error
+      → Each (Within max_integral) self.integrated_error
+      → Each (Within max_integral) (tracked self config dt shaping error limit).controller.integrated_error
   unfolding tracked
-  tracked_within self dt shaping error limit d e w =
+  tracked_within self dt s error limit d e w =
       let integral = self.integrated_error in
       let parts = all_finite→each error e in
       each_clamped_within (hold_against_limit integral (times error dt) config.velocity.i limit)
@@ -78,7 +79,9 @@ module _ (config : LateralControllerConfig) (allowed : T (check_limit config.max
       let error = velocity_error self config dt target estimate in
       cond_holds (λ (r : LateralControl). Each (Within max_integral) r.controller.integrated_error) (finite_call self config dt target estimate)
       {y = neutral self (shaping self config dt target estimate)}
-      (λ t. tracked_within self dt (shaping self config dt target estimate) error limit d (and_r (all_finite (desired_velocity config target estimate)) (all_finite error) t) w)
+      (λ t.
+      tracked_within self dt (shaping self config dt target estimate) error limit d
+      (and_r (all_finite (desired_velocity config target estimate)) (all_finite error) t) w)
       (λ _. w)
 
   abbrev pub called : LateralController → Call → LateralController

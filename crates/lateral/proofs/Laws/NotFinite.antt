@@ -38,11 +38,18 @@ module _ (self : LateralController) (config : LateralControllerConfig) (dt : Flo
   abbrev pub finite_call : Bool
   finite_call = all_finite (desired_velocity config target estimate) && all_finite velocity_error
 
-  pub finite_call_tracks : T finite_call → (limit : Vec2) → control self config dt target estimate limit ≡ tracked self config dt shaping velocity_error limit
+  pub finite_call_tracks : T finite_call → (limit : Vec2)
+      → control self config dt target estimate limit ≡ tracked self config dt shaping velocity_error limit
   unfolding control
   finite_call_tracks t limit = rw (is_true finite_call t)
 
   pub not_finite_call_is_neutral : T (not finite_call) → (limit : Vec2) → Neutral self shaping (control self config dt target estimate limit)
   unfolding control neutral
   not_finite_call_is_neutral t limit =
-      rw (is_false finite_call t) (record { no_acceleration = refl; derivative_forgotten = refl; integral_kept = refl; shaped_as_ever = refl; commanded_kept = refl })
+      rw (is_false finite_call t) (record {
+        no_acceleration = refl;
+        derivative_forgotten = refl;
+        integral_kept = refl;
+        shaped_as_ever = refl;
+        commanded_kept = refl;
+      })

@@ -10,13 +10,14 @@ use lib.Ieee.Scale.{finite}
 use Rattle.floats.specs.Compare.{abs}
 use Rattle.floats.specs.Ops.{◌⊕◌, ◌⊗◌, ◌⊘◌}
 use Rattle.floats.specs.Sqrt.{sqrt}
-use Rattle.floats.proofs.Laws.Order.{finite→number, lt→le, lt_excludes, le_trans, le_lt_trans, finite_between, abs_le, abs_finite, finite_of_abs}
+use Rattle.floats.proofs.Laws.Order.{finite→number, lt→le, lt_excludes, float_le_trans, le_lt_trans, finite_between, abs_le, abs_finite, finite_of_abs}
 use Rattle.floats.proofs.Laws.Product.{div_number, div_in_unit, mul_number, mul_shrinks, finite_factors}
 use Rattle.floats.proofs.Laws.Sum.{finite_parts}
 use Rattle.math.specs.declared.vectors.Vec2.{Vec2}
 use Rattle.math.specs.Vectors.{zeros, times, norm}
 use Rattle.math.specs.Math.{zero, one, cap_magnitude, all_finite}
-use Rattle.math.proofs.Laws.Limits.{by_test, positive_not_zero}
+use Rattle.math.proofs.Laws.Cases.{by_test}
+use Rattle.math.proofs.Laws.Limits.{positive_not_zero}
 
 -- ---- the three cases
 
@@ -76,7 +77,7 @@ module _ (v : Vec2) (limit : Float) (f : T (finite (norm v))) (p : T (le zero li
   unfolding le neg of_bits
   component_shrinks x t q =
       let k = limit ⊘ norm v in
-      mul_shrinks binary32 x k t ((abs_le k one).1 (le_trans (neg one) zero k tt factor_in_unit.0, factor_in_unit.1))
+      mul_shrinks binary32 x k t ((abs_le k one).1 (float_le_trans (neg one) zero k tt factor_in_unit.0, factor_in_unit.1))
       (mul_number binary32 x k q factor_finite)
 
   component_finite : (x : Float) → T (fits binary32 x) → T (finite x) → T (finite (x ⊗ (limit ⊘ norm v)))

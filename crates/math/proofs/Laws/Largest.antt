@@ -7,7 +7,7 @@ use native.Mathlib.Omega.{arith}
 use lib.Dec.{T, leb, leb→le, nleb→lt}
 use lib.IntN.{pos}
 use lib.Pow.{pow-add, pow_pos, le_ones}
-use lib.Ieee.{Float, fin, Format, prec, emax, up, down, le, fits}
+use lib.Ieee.{Float, fin, Format, prec, emax, up, down, le, fits, inf, nan}
 use lib.Ieee.Digits.{back}
 use lib.Ieee.Fits.{reach}
 use lib.Ieee.Positive.{num, den, den_pos}
@@ -52,6 +52,8 @@ size_bound : (f : Format) (x : Float) → T (fits f x) → T (finite x) → num 
 size_bound f (fin s m e) t p =
     let h = fits→holds f s m e t in
     ones_bound (prec f) (spare f) m (up e) (down e) (up_power e) (down_power e) h.digits (lt_of_lt_of_le h.under (le_of_eq (range_end f (down e))))
+size_bound f nan t p = elim p [ ]
+size_bound f (inf _) t p = elim p [ ]
 
 pub le_largest : (f : Format) (x : Float) → T (fits f x) → T (finite x) → T (le (abs x) (largest f))
 le_largest f x t p =

@@ -11,14 +11,15 @@ use lib.Ieee.Fits.{and_i, and_l, and_r, neg-fits}
 use lib.Ieee.Scale.{finite}
 use Rattle.floats.specs.Ops.{◌⊕◌, ◌⊖◌, ◌⊗◌, ◌⊘◌}
 use Rattle.floats.specs.MinMax.{max, clamp}
-use Rattle.floats.proofs.Laws.Order.{finite→number, lt_numbers, same_test, le_trans, lt_le_trans, finite_between, neg_finite}
+use Rattle.floats.proofs.Laws.Order.{finite→number, lt_numbers, same_test, float_le_trans, lt_le_trans, finite_between, neg_finite}
 use Rattle.floats.proofs.Laws.MinMax.{max_ge_right, max_keeps, clamp_at_least, clamp_at_most}
 use Rattle.floats.proofs.Laws.Product.{div_number, div_nonneg, div_mono, div_anti, finite_factors}
 use Rattle.floats.proofs.Laws.Sum.{sub_pos, sub_above_zero, finite_parts}
 use Rattle.math.specs.declared.vectors.Quaternion.{Quaternion}
 use Rattle.math.specs.declared.SinkGuard.TheVariants.{Raised, Off}
 use Rattle.math.specs.Math.{zero, tenth, half, one, two, tilt_cosine, tilt_boost, guard_sink, saturate_throttle}
-use Rattle.math.proofs.Laws.Limits.{by_test, positive_not_zero, saturate_throttle_in_unit}
+use Rattle.math.proofs.Laws.Cases.{by_test}
+use Rattle.math.proofs.Laws.Limits.{positive_not_zero, saturate_throttle_in_unit}
 
 -- ---- the sink guard
 
@@ -45,8 +46,8 @@ raised_by_test : (b : Bool) (u v : Float) → cond b (Raised u) Off ≡ Raised v
 raised_by_test true u v p = (tt, cc)
 raised_by_test false u v p = absurd (off_is_not_raised v p)
 
-pub guard_raises_past_limit : (thrust climb limit gain v : Float) → T (fits binary32 climb) → T (fits binary32 limit) → guard_sink thrust climb limit gain ≡ Raised v
-    → T (lt zero limit) × T (lt climb (neg limit)) × T (le zero v) × T (le v one)
+pub guard_raises_past_limit : (thrust climb limit gain v : Float) → T (fits binary32 climb) → T (fits binary32 limit)
+    → guard_sink thrust climb limit gain ≡ Raised v → T (lt zero limit) × T (lt climb (neg limit)) × T (le zero v) × T (le v one)
 guard_raises_past_limit thrust climb limit gain v p q e =
     let w = thrust ⊕ gain ⊗ (neg limit ⊖ climb) in
     let a = lt zero limit in
@@ -55,8 +56,8 @@ guard_raises_past_limit thrust climb limit gain v p q e =
     let u = saturate_throttle_in_unit w in
     (and_l a b r.0, and_r a b r.0, rw (← r.1) u.0, rw (← r.1) u.1)
 
-pub guard_off_at_limit : (thrust climb limit gain : Float) → T (fits binary32 climb) → T (fits binary32 limit) → T (not (lt zero limit && lt climb (neg limit)))
-    → guard_sink thrust climb limit gain ≡ Off
+pub guard_off_at_limit : (thrust climb limit gain : Float) → T (fits binary32 climb) → T (fits binary32 limit)
+    → T (not (lt zero limit && lt climb (neg limit))) → guard_sink thrust climb limit gain ≡ Off
 guard_off_at_limit thrust climb limit gain p q h = guard_by_test thrust climb limit gain p q ∙ rw (is_false (lt zero limit && lt climb (neg limit)) h)
 
 -- ---- the tilt boost
@@ -88,7 +89,7 @@ quotient_range u m a b h p =
     let nu = div_number binary32 u m (finite_between zero u one tt tt a b) nm nz in
     let no = div_number binary32 one m tt nm nz in (
       div_nonneg binary32 u m a pm nu,
-      le_trans (u ⊘ m) (one ⊘ m) two (div_mono binary32 u one m pm b nu no) (div_anti binary32 one half m tt tt h tt no),
+      float_le_trans (u ⊘ m) (one ⊘ m) two (div_mono binary32 u one m pm b nu no) (div_anti binary32 one half m tt tt h tt no),
     )
 
 -- so it is never a NaN

@@ -9,12 +9,13 @@ use Rattle.math.specs.declared.vectors.Vec2.{Vec2}
 use Rattle.math.specs.declared.vectors.Quaternion.{Quaternion}
 use Rattle.math.specs.declared.SinkGuard.TheVariants.{Raised, Off}
 use Rattle.math.specs.Vectors.{zeros}
-use Rattle.math.specs.Math.{zero, half, one, two, wrap_angle, rem_euclid, tilt_boost, tilt_cosine, shaped_closing_speed, braked_speed, guard_sink, saturate_throttle, cap_magnitude}
+use Rattle.math.specs.Math.{zero, half, one, two, wrap_angle, rem_euclid, tilt_boost, tilt_cosine, guard_sink, saturate_throttle, cap_magnitude}
+use Rattle.math.specs.Math.{shaped_closing_speed, braked_speed}
 
 -- ---- W1
 
 pub wrap_of_zero : wrap_angle zero ≡ zero
-unfolding wrap_angle rem_euclid rem add sub lt is_nan of_bits
+unfolding wrap_angle rem_euclid rem add sub lt le is_nan of_bits
 wrap_of_zero = refl
 
 -- ---- W2: the attitude w, i, j, k

@@ -15,14 +15,15 @@ use lib.Ieee.Positive.{num, den, den_pos, positive, positive-finite, between}
 use lib.Ieee.Scale.{finite}
 use Rattle.floats.specs.Ops.{f32, ◌⊕◌, ◌⊖◌}
 use Rattle.floats.specs.Compare.{abs, is_negative}
-use Rattle.floats.proofs.Laws.Order.{finite→number, le_numbers, le_or_lt, lt→le, lt_excludes, le_trans, le_lt_trans, finite_between, neg_neg, neg_le}
-use Rattle.floats.proofs.Laws.Round.{AtMost, Less, fractions_of_lt, own_fraction, le_of_fractions, round_zero, round_nonneg, round_at_most, round_at_least, round_below}
+use Rattle.floats.proofs.Laws.Order.{finite→number, le_numbers, le_or_lt, lt→le, lt_excludes, float_le_trans, le_lt_trans, finite_between, neg_neg, neg_le}
+use Rattle.floats.proofs.Laws.Round.{AtMost, Less, fractions_of_lt, own_fraction, le_of_fractions}
+use Rattle.floats.proofs.Laws.Round.{round_zero, round_nonneg, round_at_most, round_at_least, round_below}
 use Rattle.floats.proofs.Laws.Fractions.{rem_rounds}
 use Rattle.floats.proofs.Laws.Grid.{large_on_grid}
 use Rattle.floats.proofs.Laws.Remainder.{rem_of_smaller, rem_inside, above_opposite}
 use Rattle.floats.proofs.Laws.Sterbenz.{sterbenz_add_back, sterbenz_sub_back}
 use Rattle.floats.proofs.Laws.Sum.{add_mono, sub_mono, add_finite, add_finite_number, number_add, number_sub}
-use Rattle.math.specs.Math.{zero, pi, tau, rem_euclid, wrap_angle}
+use Rattle.math.specs.Math.{zero, pi, tau, half_pi, rem_euclid, wrap_angle}
 use Rattle.math.proofs.Laws.Largest.{le_largest, largest}
 
 -- ---- the remainder by 2π
@@ -197,10 +198,6 @@ back_in_range r h k =
     let m = number_add binary32 (r ⊖ pi) pi (le_numbers (neg pi) (r ⊖ pi) g.0).1 tt in
     (add_mono binary32 (neg pi) (r ⊖ pi) pi pi g.0 tt tt m, add_mono binary32 (r ⊖ pi) (below_tau ⊖ pi) pi pi g.1 tt m tt)
 
--- π/2
-abbrev half_pi : Float
-half_pi = f32 0x3FC9_0FDB
-
 -- Neither of π and a value from π/2 to 2π is more than twice the other.
 module _ (v : Float) (p : T (fits binary32 v)) (h : T (le half_pi v)) (k : T (le v below_tau)) where
   v_positive : T (positive v)
@@ -209,7 +206,7 @@ module _ (v : Float) (p : T (fits binary32 v)) (h : T (le half_pi v)) (k : T (le
 
   at_most_twice_pi : T (le v (pi ⊕ pi))
   unfolding le add of_bits
-  at_most_twice_pi = le_trans v below_tau tau k tt
+  at_most_twice_pi = float_le_trans v below_tau tau k tt
 
   pi_at_most_twice : T (le pi (v ⊕ v))
   unfolding le add is_nan of_bits
@@ -232,7 +229,7 @@ unfolding le sub add neg is_nan of_bits
 below_half_pi r h k =
     let y = r ⊖ pi in
     let g = less_pi_range r half_pi h k in
-    let most = le_trans (neg y) pi below_tau (neg_le (neg pi) y g.0) tt in
+    let most = float_le_trans (neg y) pi below_tau (neg_le (neg pi) y g.0) tt in
     rw neg_neg at (sum_back (neg y) (neg-fits binary32 y (sub-fits binary32 r pi)) (neg_le y (neg half_pi) g.1) most)
 
 rem_euclid_fits : (x y : Float) → T (fits binary32 x) → T (fits binary32 (rem_euclid x y))

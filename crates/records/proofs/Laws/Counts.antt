@@ -1,6 +1,7 @@
 -- What a record comes to. Where the buffer has room, its answer, its craft and the bytes that it takes come of the craft and the bytes alone. It takes
 -- no more bytes than there are, at least one unless it ends the flight, and writes 25 bytes at most; what follows a whole record does not change it.
 -- Assumes nothing.
+use Rattle.std.proofs.lemmas.Bool.{cond_both}
 use Prim.Native.Nat.{ℕ, zero, suc, ◌-◌, ◌≤◌}
 use mathlib.Core.Path.{◌≡◌, refl, sym, ap, ◌∙◌}
 use mathlib.Core.Bool.{Bool, true, false, not, cond, ◌&&◌, ◌||◌, true≢false}
@@ -57,10 +58,6 @@ step_judged craft bytes buffer room = rw (le-ltb (length buffer) answer_room roo
 
 -- ---- what is written
 
-setpoint_eighteen : (kind : ℕ) (w x y z : Float) (flags : Flags) → length (setpoint_bytes kind w x y z flags) ≡ 18
-unfolding setpoint_bytes
-setpoint_eighteen kind w x y z flags = refl
-
 refusal_short : (refusal : Refusal) → length (refusal_bytes refusal) ≤ 3
 unfolding refusal_bytes
 refusal_short (refusals.Field field) = omega arith
@@ -74,20 +71,15 @@ refusal_short refusals.Mark = omega arith
 refusal_short refusals.NoRoom = omega arith
 
 pub answer_short : (answer : Answer) → length (answer_bytes answer) ≤ answer_room
-unfolding answer_bytes
-answer_short (answers.Attitude s flags) = omega (arith, setpoint_eighteen 1 s.roll_rad s.pitch_rad s.heading_rad s.thrust flags)
-answer_short (answers.BodyRate s flags) = omega (arith, setpoint_eighteen 2 s.roll_radps s.pitch_radps s.yaw_radps s.thrust flags)
+unfolding setpoint_bytes answer_bytes
+answer_short (answers.Attitude s flags) = omega arith
+answer_short (answers.BodyRate s flags) = omega arith
 answer_short (answers.Refused refusal) = omega (arith, refusal_short refusal)
 answer_short answers.Done = omega arith
 answer_short answers.NoWind = omega arith
 answer_short (answers.Wind w) = omega arith
 
 -- ---- tests
-
--- a fact of either of two values, by the test that picks one
-pub by_test : {A : Type 0} (P : A → Type 0) (b : Bool) {x y : A} → (b ≡ true → P x) → (b ≡ false → P y) → P (cond b x y)
-by_test P true first second = first refl
-by_test P false first second = second refl
 
 -- Values that agree where the test fails agree.
 pub same_unless : {A : Type 0} (b : Bool) (x : A) {p q : A} → (b ≡ false → p ≡ q) → cond b x p ≡ cond b x q
@@ -103,7 +95,7 @@ neither false b e = (refl, e)
 -- no kind of record
 abbrev pub unknown : Kind → Bool
 unknown kinds.Configure = false
-unknown (kinds.InFlight kind) = false
+unknown (kinds.InFlight _) = false
 unknown kinds.Unknown = true
 
 -- The kinds are 1 to 9.
@@ -126,7 +118,7 @@ pub known_kind : (kind : Kind) (guidance : Guidance) (rest : List ℕ) → unkno
     → with_kind kind guidance rest ≡ with_body kind guidance rest
 unfolding with_kind
 known_kind kinds.Configure guidance rest e = refl
-known_kind (kinds.InFlight kind) guidance rest e = refl
+known_kind (kinds.InFlight _) guidance rest e = refl
 known_kind kinds.Unknown guidance rest e = absurd (true≢false e)
 
 -- ---- what a record comes to
@@ -140,7 +132,7 @@ module _ (P : Judged → Type 0) (guidance : Guidance) (bytes : List ℕ) (short
       → P (with_body kind guidance (drop 1 bytes))
   with_body_cases kind some whole =
       let rest = drop 1 bytes in
-      by_test P (ltb (length rest) (body_length kind)) (λ cut. short)
+      cond_both (ltb (length rest) (body_length kind)) _ _ P (λ cut. short)
       (λ enough. whole (omega (arith, ltb-false (length rest) (body_length kind) enough, length-drop 1 bytes)))
 
   with_kind_cases : P (untaken refusals.Kind) → (kind : Kind) → 1 ≤ length bytes
@@ -158,7 +150,7 @@ module _ (P : Judged → Type 0) (guidance : Guidance) (bytes : List ℕ) (short
       → P (judged guidance bytes)
   unfolding judged
   judged_cases strange whole =
-      by_test P (eqb (length bytes) 0) (λ empty. short)
+      cond_both (eqb (length bytes) 0) _ _ P (λ empty. short)
       (λ some. let none_missing = eqb-false (length bytes) 0 some in with_kind_cases strange (kind_of (byte_at bytes 0)) (omega arith) whole)
 
 pub judged_whole : (guidance : Guidance) (bytes : List ℕ) →
@@ -208,7 +200,7 @@ complete_told craft bytes buffer complete in_flight is =
 pub accepted_complete : (craft : Craft) (bytes buffer : List ℕ) → T (accepted (step craft bytes buffer).answer) → Complete bytes buffer
 unfolding step answered answer_of
 accepted_complete craft bytes buffer =
-    by_test Completes (ltb (length buffer) answer_room) (λ small none. absurd none)
+    cond_both (ltb (length buffer) answer_room) _ _ Completes (λ small none. absurd none)
     (λ room. judged_cases Completes craft.guidance bytes (λ none. absurd none) (λ none. absurd none)
     (λ is_known whole some. record { is_known = is_known; whole = whole; room = ltb-false (length buffer) answer_room room }))
   where
@@ -279,12 +271,12 @@ with_kind_prefix kinds.Unknown guidance rest more enough = refl
 pub judged_prefix : (guidance : Guidance) (bytes more : List ℕ) → 1 ≤ length bytes → cut_short bytes ≡ false
     → judged guidance (bytes ++ more) ≡ judged guidance bytes
 unfolding judged cut_short
-judged_prefix guidance bytes more some not_Is_short =
+judged_prefix guidance bytes more some not_short =
     let kind = kind_of (byte_at bytes 0) in
     let longer : length (bytes ++ more) ≡ 0 → ⊥ = λ empty. omega (arith, length-append bytes more) in
     let here : length bytes ≡ 0 → ⊥ = λ empty. omega arith in
     let enough : body_length kind ≤ length (drop 1 bytes) =
-    omega (arith, ltb-false (length bytes - 1) (body_length kind) not_Is_short, length-drop 1 bytes) in
+    omega (arith, ltb-false (length bytes - 1) (body_length kind) not_short, length-drop 1 bytes) in
     rw (
       ne_eqb (length (bytes ++ more)) 0 longer,
       ne_eqb (length bytes) 0 here,
@@ -292,16 +284,6 @@ judged_prefix guidance bytes more some not_Is_short =
       drop-append-le 1 bytes more some,
     )
     (with_kind_prefix kind guidance (drop 1 bytes) more enough)
-
--- The record operation does not look past a whole record.
-pub nothing_past_a_record : (craft : Craft) (bytes more buffer : List ℕ) → answer_room ≤ length buffer → 1 ≤ length bytes → cut_short bytes ≡ false
-    → step craft (bytes ++ more) buffer ≡ step craft bytes buffer
-nothing_past_a_record craft bytes more buffer room some not_Is_short =
-    rw (
-      step_judged craft (bytes ++ more) buffer room,
-      step_judged craft bytes buffer room,
-      judged_prefix craft.guidance bytes more some not_Is_short,
-    )
 
 -- ---- what a whole record is answered
 
@@ -319,7 +301,7 @@ reading_accepted (filters.Estimate estimate) = refl
 pub perform_accepted : (g : CopterGuidance) (input : Input) → refusal_of (perform g input).answer ≡ none
 unfolding perform guided
 perform_accepted g (inputs.Prime state) = refl
-perform_accepted g (inputs.Call dt state command) = let m = guide_call g dt state command in setpoint_accepted m.setpoint m.flags
+perform_accepted g (inputs.Call dt state command) = setpoint_accepted (guide_call g dt state command).setpoint _
 perform_accepted g inputs.Wind = reading_accepted (wind_reading g)
 
 -- an accepted answer, or a refusal that takes the record
@@ -349,7 +331,7 @@ call_takes (commanded.Command command) dt state =
 
 read_takes : (kind : InFlight) (body : List ℕ) → TakesBody (read kind body)
 unfolding read
-read_takes flights.Prime body = by_test TakesBody (heading_ok (state body).heading_rad) (λ headed. tt) (λ turned. refl)
+read_takes flights.Prime body = cond_both (heading_ok (state body).heading_rad) _ _ TakesBody (λ headed. tt) (λ turned. refl)
 read_takes (flights.Call call) body = call_takes (command call (drop command_start body)) _ _
 read_takes flights.Rate body = refl
 read_takes flights.Wind body = tt
@@ -390,17 +372,3 @@ taken_goes_on (Refused refusal) takes = (neither (ends_flight (answers.Refused r
 pub whole_goes_on : (kind : Kind) (guidance : Guidance) (body : List ℕ) → unknown kind ≡ false
     → ends_flight (answer_of (serve kind guidance body)) ≡ false
 whole_goes_on kind guidance body is_known = taken_goes_on (serve kind guidance body) (serve_takes kind guidance body is_known)
-
--- no byte is taken where the flight ends
-abbrev EndsInPlace : Judged → Type 0
-EndsInPlace j = ends_flight (answer_of j.verdict) ≡ true → j.taken ≡ 0
-
--- A record that ends the flight takes no byte.
-pub ending_takes_nothing : (craft : Craft) (bytes buffer : List ℕ) → ends_flight (step craft bytes buffer).answer ≡ true
-    → (step craft bytes buffer).taken ≡ 0
-unfolding step answered
-ending_takes_nothing craft bytes buffer =
-    let guidance = craft.guidance in
-    by_test EndsInPlace (ltb (length buffer) answer_room) (λ small ends. refl)
-    (λ room. judged_cases EndsInPlace guidance bytes (λ ends. refl) (λ ends. refl)
-    (λ is_known whole ends. absurd (true≢false (sym ends ∙ whole_goes_on (kind_of (byte_at bytes 0)) guidance _ is_known))))

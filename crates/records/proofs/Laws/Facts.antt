@@ -38,7 +38,8 @@ use Rattle.records.specs.Step.{Judged, untaken, judged, craft_after, answer_of, 
 use Rattle.records.specs.Step as steps
 use Rattle.records.specs.Feed.{Entry, outcome, after, machine, kind_byte, body_of, Accepted}
 use Rattle.records.specs.Facts.{Told, Configuring, AcceptedAs, a_configure, an_input, Facts}
-use Rattle.records.proofs.Laws.Counts.{by_test, judged_cases}
+use Rattle.std.proofs.lemmas.Bool.{cond_both}
+use Rattle.records.proofs.Laws.Counts.{judged_cases}
 use Rattle.records.proofs.Laws.Read.{InputFits, ReadFits, read_fits, ConfigurationValid, configuration_valid}
 
 -- ---- what an input comes to
@@ -77,8 +78,8 @@ module _ (craft : Craft) (entry : Entry) where
   whole : Whole (cond (ltb (length entry.buffer) answer_room) (untaken refusals.NoRoom) (judged craft.guidance entry.bytes))
   unfolding answer_of
   whole =
-      by_test Whole (ltb (length entry.buffer) answer_room) (λ small ok. absurd ok)
-      (λ room. judged_cases Whole craft.guidance entry.bytes (λ ok. absurd ok) (λ ok. absurd ok) (λ is_Known long ok. refl))
+      cond_both (ltb (length entry.buffer) answer_room) _ _ Whole (λ small ok. absurd ok)
+      (λ room. judged_cases Whole craft.guidance entry.bytes (λ ok. absurd ok) (λ ok. absurd ok) (λ is_known long ok. refl))
 
   -- what a verdict leaves and answers
   abbrev ComesTo : Verdict → Type 0
@@ -177,7 +178,7 @@ serve_reached : (kind : Kind) (guidance : Guidance) (body : List ℕ) → HeldRe
 unfolding serve
 serve_reached kinds.Configure guidance body r = configure_reached (configuration body) (configuration_valid body)
 serve_reached (kinds.InFlight k) guidance body r = told_reached guidance (read k body) r (read_fits k body)
-serve_reached kinds.Unknown guidance body r = tt
+serve_reached kinds.Unknown guidance _ r = tt
 
 craft_reached : (craft : Craft) (verdict : Verdict) → HeldReached craft.guidance → VerdictReached verdict
     → HeldReached (craft_after craft verdict).guidance
@@ -189,9 +190,9 @@ outcome_reached : (craft : Craft) (entry : Entry) → HeldReached craft.guidance
 unfolding step answered
 outcome_reached craft entry r =
     craft_reached craft _ r
-    (by_test JudgedReached (ltb (length entry.buffer) answer_room) (λ small. tt)
+    (cond_both (ltb (length entry.buffer) answer_room) _ _ JudgedReached (λ small. tt)
     (λ room. judged_cases JudgedReached craft.guidance entry.bytes tt tt
-    (λ is_Known long. serve_reached (kind_of (kind_byte entry)) craft.guidance (body_of entry) r)))
+    (λ is_known long. serve_reached (kind_of (kind_byte entry)) craft.guidance (body_of entry) r)))
 
 after_reached : (craft : Craft) (entries : List Entry) → HeldReached craft.guidance → HeldReached (after craft entries).guidance
 unfolding after

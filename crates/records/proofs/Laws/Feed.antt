@@ -31,7 +31,6 @@ use Rattle.records.specs.declared.craft.Guidance.TheVariants.{Unconfigured, Conf
 use Rattle.records.specs.declared.craft.Craft.{Craft}
 use Rattle.records.specs.declared.answer.Refusal.TheVariants as refusals
 use Rattle.records.specs.declared.answer.Answer.TheVariants.{Done}
-use Rattle.records.specs.declared.kinds.Call.{Call}
 use Rattle.records.specs.declared.kinds.Call.TheVariants as calls
 use Rattle.records.specs.declared.kinds.InFlight.{InFlight}
 use Rattle.records.specs.declared.kinds.InFlight.TheVariants as flights
@@ -50,13 +49,14 @@ use Rattle.records.specs.Read.{absolute_attitude_command, absolute_rate_command,
 use Rattle.records.specs.Read.{prime_input, call_input, read}
 use Rattle.records.specs.Step.{configured, setpoint_answer, wind_answer, guided, perform, Verdict, Accepted, Refused, performed, told, serve}
 use Rattle.records.specs.Step.{Judged, untaken, with_body, with_kind, judged, Outcome, craft_after, answer_of, answered}
-use Rattle.records.specs.Step.{answer_room, step, reported}
+use Rattle.records.specs.Step.{answer_room, step}
 use Rattle.records.specs.Feed.{Entry, reply, outcome, after, machine, replies, Link, Fed, given_back, port_replies, kind_byte, body_of}
 use Rattle.records.specs.Feed.{Ending, heading_of, ending_heading, Priming, made_fresh, reset, heading_held, wind_held}
 use Rattle.records.specs.Feed.{above_ground, SameWind, WholeFeeds}
 use Rattle.records.specs.Feed as feed
 use Rattle.records.proofs.Laws.Layout.{float_at_fits}
-use Rattle.records.proofs.Laws.Counts.{by_test, complete_told, accepted_complete}
+use Rattle.std.proofs.lemmas.Bool.{cond_both}
+use Rattle.records.proofs.Laws.Counts.{complete_told, accepted_complete}
 use Rattle.records.proofs.Laws.Read.{by_checks}
 
 -- ---- crafts that differ in no more than what cannot be read
@@ -177,7 +177,7 @@ call_says command dt state = by_checks (Says (inputs.Call dt state command)) com
 
 prime_says : (state : VehicleState) → Says (inputs.Prime state) (prime_input state)
 unfolding prime_input
-prime_says state = by_test (Says (inputs.Prime state)) (heading_ok state.heading_rad) (λ headed. refl) (λ turned. tt)
+prime_says state = cond_both (heading_ok state.heading_rad) _ _ (Says (inputs.Prime state)) (λ headed. refl) (λ turned. tt)
 
 told_accepted : (guidance : Guidance) (said : Read) (input : Input) → Says input said → T (accepted (answer_of (told guidance said)))
     → (g : CopterGuidance) × (guidance ≡ Configured g) × (said ≡ reading.Input input)
@@ -305,7 +305,7 @@ module _ (craft : Craft) (entry : Entry) (priming : Priming craft entry) where
 
 -- fed the same entries, the port gives back the craft that the machine holds
 pub given_back_is_held : (c : Craft) (entries : List Entry) (links : List Link) → Fed c entries links → given_back c links ≡ after c entries
-unfolding Fed given_back after reported
+unfolding Fed given_back after
 given_back_is_held c [] [] f = refl
 given_back_is_held c [] (link ∷ links) f = absurd f
 given_back_is_held c (entry ∷ entries) [] f = absurd f
@@ -314,7 +314,7 @@ given_back_is_held c (entry ∷ entries) (link ∷ links) f =
 
 -- and answers as the machine does
 pub port_answers_as_machine : (c : Craft) (entries : List Entry) (links : List Link) → Fed c entries links → port_replies links ≡ replies c entries
-unfolding Fed port_replies replies reported
+unfolding Fed port_replies replies
 port_answers_as_machine c [] [] f = refl
 port_answers_as_machine c [] (link ∷ links) f = absurd f
 port_answers_as_machine c (entry ∷ entries) [] f = absurd f

@@ -20,7 +20,8 @@ use Rattle.records.specs.Inner.{left, free, waiting, next, rest, Stands}
 use Rattle.records.specs.Feed.{Entry, outcome, replies, kind_byte, body_of}
 use Rattle.records.specs.Total.{last_kind}
 use Rattle.records.specs.Worked.{file, output}
-use Rattle.records.proofs.Laws.Counts.{step_judged, by_test, same_unless, neither, unknown, unknown_byte}
+use Rattle.std.proofs.lemmas.Bool.{cond_both}
+use Rattle.records.proofs.Laws.Counts.{step_judged, same_unless, neither, unknown, unknown_byte}
 use Rattle.records.proofs.Laws.Counts.{served, complete_served, judged_takes, Counted, step_counted, judged_prefix, whole_goes_on}
 
 -- ---- when a record does not wait
@@ -105,7 +106,7 @@ fly_on_stands : (n : ℕ) (last : Bool) (bytes : List ℕ) (size : ℕ) (flight 
 unfolding fly_on
 fly_on_stands zero last bytes size flight stands = stands
 fly_on_stands (suc n) last bytes size flight stands =
-    by_test (Stands bytes size) (flight.ended || waiting last bytes flight) (λ over. stands)
+    cond_both (flight.ended || waiting last bytes flight) _ _ (Stands bytes size) (λ over. stands)
     (λ goes_on.
     let (going, ready) = neither flight.ended (waiting last bytes flight) goes_on in
     fly_on_stands n last bytes size (next bytes flight) (next_stands last bytes size flight stands ready))
@@ -273,7 +274,7 @@ module _ (last : Bool) (piece more : List ℕ) (size : ℕ) (all : last ≡ true
   unfolding fly_on
   same_flown zero flight stands = refl
   same_flown (suc n) flight stands =
-      by_test (λ (f : Flight). in_all piece more flight ≡ in_all piece more f) (flight.ended || waiting last piece flight) (λ over. refl)
+      cond_both (flight.ended || waiting last piece flight) _ _ (λ (f : Flight). in_all piece more flight ≡ in_all piece more f) (λ over. refl)
       (λ goes_on.
       let (going, ready) = neither flight.ended (waiting last piece flight) goes_on in
       same_next flight stands going ready ∙ same_flown n (next piece flight) (next_stands last piece size flight stands ready))
@@ -314,7 +315,7 @@ module _ (last : Bool) (bytes : List ℕ) (size : ℕ) where
   unfolding fly_on
   stopped zero flight stands enough going = none_left last bytes size flight (enough going)
   stopped (suc n) flight stands enough GoingOn =
-      by_test (λ (f : Flight). f.ended ≡ false → waiting last bytes f ≡ true) (flight.ended || waiting last bytes flight)
+      cond_both (flight.ended || waiting last bytes flight) _ _ (λ (f : Flight). f.ended ≡ false → waiting last bytes f ≡ true)
       (λ over going. rw going at over)
       (λ goes_on.
       let (going, ready) = neither flight.ended (waiting last bytes flight) goes_on in
@@ -403,8 +404,8 @@ module _ (craft : Craft) (entry : Entry) (whole : Whole entry) where
       let bytes = entry.bytes in
       let counts = step_counted craft bytes entry.buffer has_room in
       let some : 1 ≤ length bytes = omega (arith, whole.exact) in
-      let not_Is_short = le-ltb (length bytes - 1) (body_length (kind_of (kind_byte entry))) (omega (arith, whole.exact)) in
-      first_of_piece craft bytes others entry.buffer some has_room (judged_prefix craft.guidance bytes others some not_Is_short)
+      let not_short = le-ltb (length bytes - 1) (body_length (kind_of (kind_byte entry))) (omega (arith, whole.exact)) in
+      first_of_piece craft bytes others entry.buffer some has_room (judged_prefix craft.guidance bytes others some not_short)
       ∙ rw (never_ends, takes_all, counts.puts)
 
 -- A file of whole records is answered as they are, one by one.

@@ -10,7 +10,7 @@ use borrow.Fn.Kinds.{Dens, res_t, ended_of}
 use borrow.Fn.World.{World}
 use denote.Triple.Clauses.{AtExit}
 use Rattle.records.specs.declared.craft.Craft.{Craft}
-use Rattle.records.specs.Step.{Outcome, reported}
+use Rattle.records.specs.Step.{Outcome}
 use Rattle.records.specs.Feed.{Entry, outcome, Link, Fed}
 use Rattle.records.proofs.step.record.Kinds as kinds
 use Rattle.records.proofs.step.record.Reads as reads
@@ -45,10 +45,6 @@ module _ (κs : Lfts 2) where
         → ent w.𝓤 (reads.ensures κs args tt handled exit w) (fact w.𝓤 (Fed args.0 (entry_of args ∷ entries) (link_of handled exit ∷ links)))
     link_of_clause w = fact_mono w.𝓤 (reads.Learnt κs args handled exit) _ link_of_contract
 
-  pub single_link_of_contract : (args : Arguments) (handled : Result) (exit : AtEnd) → reads.Learnt κs args handled exit
-      → Fed args.0 (entry_of args ∷ []) (link_of handled exit ∷ [])
-  single_link_of_contract args handled exit promised = link_of_contract args handled exit [] [] (unfold Fed in tt) promised
-
 -- ---- every list has links: those that the definition gives
 
 abbrev pub definition_link : Outcome → Link
@@ -63,6 +59,6 @@ definition_links craft [] = []
 definition_links craft (entry ∷ entries) = definition_link (outcome craft entry) ∷ definition_links (outcome craft entry).craft entries
 
 pub definition_fed : (craft : Craft) (entries : List Entry) → Fed craft entries (definition_links craft entries)
-unfolding Fed reported definition_links
+unfolding Fed definition_links
 definition_fed craft [] = tt
 definition_fed craft (entry ∷ entries) = (refl, definition_fed (outcome craft entry).craft entries)

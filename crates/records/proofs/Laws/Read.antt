@@ -32,7 +32,7 @@ use Rattle.records.specs.Kinds.{state_start, command_start}
 use Rattle.records.specs.Read.{state, state_at, absolute_attitude_command, marks_ok, command, time_step_ok, heading_ok, configuration}
 use Rattle.records.specs.Read.{call_input, read}
 use Rattle.records.proofs.Laws.Layout.{float_at_fits}
-use Rattle.records.proofs.Laws.Counts.{by_test}
+use Rattle.std.proofs.lemmas.Bool.{cond_both}
 use Rattle.records.proofs.Laws.Total.{fields_searched, none_fails_kept, each_keeps}
 
 -- ---- floats
@@ -44,7 +44,8 @@ heading_fits part = float_at_fits part 56
 in_time_accepted : (dt : Float) → time_step_ok dt ≡ true → Accepted dt
 unfolding time_step_ok
 in_time_accepted dt ok =
-    let both : T (time_step_ok dt) = subst T (sym ok) tt in (and_l (le shortest dt) (le dt one) both, and_r (le shortest dt) (le dt one) both)
+    let both : T (time_step_ok dt) = subst T (sym ok) tt in
+    record { at_least = and_l (le shortest dt) (le dt one) both; at_most = and_r (le shortest dt) (le dt one) both }
 
 -- ---- inputs
 
@@ -55,7 +56,7 @@ CommandReadFits commanded.BadMark = Unit {0}
 command_fits : (call : Call) (part : List ℕ) → CommandReadFits (command call part)
 unfolding command absolute_attitude_command
 command_fits calls.Attitude part = tt
-command_fits calls.Waypoint part = by_test CommandReadFits (marks_ok part) (λ marked. tt) (λ unmarked. tt)
+command_fits calls.Waypoint part = cond_both (marks_ok part) _ _ CommandReadFits (λ marked. tt) (λ unmarked. tt)
 command_fits calls.AbsoluteAttitude part = float_at_fits part 8
 command_fits calls.Land part = tt
 command_fits calls.AbsoluteRate part = tt
@@ -93,7 +94,7 @@ call_fits (commanded.Command command) dt state fit heading =
 
 pub read_fits : (kind : InFlight) (body : List ℕ) → ReadFits (read kind body)
 unfolding read
-read_fits flights.Prime body = by_test ReadFits (heading_ok (state body).heading_rad) (λ headed. heading_fits body) (λ turned. tt)
+read_fits flights.Prime body = cond_both (heading_ok (state body).heading_rad) _ _ ReadFits (λ headed. heading_fits body) (λ turned. tt)
 read_fits (flights.Call call) body =
     let part = drop command_start body in
     call_fits (command call part) (float_at body 0) (state_at body state_start) (command_fits call part) (heading_fits (drop state_start body))
@@ -115,5 +116,5 @@ pub configuration_valid : (body : List ℕ) → ConfigurationValid (configuratio
 unfolding configuration
 configuration_valid body =
     let values = floats_from 0 field_count body in
-    by_test ConfigurationValid (leb (lowest values 1 field_count) field_count) (λ breaks. tt)
+    cond_both (leb (lowest values 1 field_count) field_count) _ _ ConfigurationValid (λ breaks. tt)
     (λ none_breaks. kept_valid values (none_broken body none_breaks))

@@ -46,7 +46,8 @@ use Rattle.records.specs.Total.{Reason, because, broken, reason, reason_in, reas
 use Rattle.records.specs.Total.{fields_kept, out_of_range, too_large, step_and_heading, own_checks, checks, why, Numbered}
 use Rattle.records.specs.Total.{Accepting, Configures, fields_in, config_in, Keeps, Lowest, takes_none, Refusing, Total}
 use Rattle.records.proofs.Laws.Layout.{floats_at}
-use Rattle.records.proofs.Laws.Counts.{answer_short, by_test, neither, unknown, unknown_byte, served, judged_cases, complete_served, accepted_complete}
+use Rattle.std.proofs.lemmas.Bool.{cond_both}
+use Rattle.records.proofs.Laws.Counts.{answer_short, neither, unknown, unknown_byte, served, judged_cases, complete_served, accepted_complete}
 use Rattle.records.proofs.Laws.Counts.{perform_accepted, TakesRecord, serve_takes}
 
 -- ---- places in a body
@@ -120,7 +121,7 @@ found body n zero = λ i low high. absurd (omega arith)
 found body n (suc d) =
     let keeps = rule n (float_at body (4 * (n - 1))) in
     let others = first_failing (fields_kept body (suc n) d) in
-    by_test (Found body n (suc d)) (not keeps) (λ fails. found_here body n d (not-true keeps fails))
+    cond_both (not keeps) _ _ (Found body n (suc d)) (λ fails. found_here body n d (not-true keeps fails))
     (λ holds. found_later body n d (not-false keeps holds) others (found body (suc n) d))
 
 kept_none_fails : (body : List ℕ) → ((n : ℕ) → 1 ≤ n → n ≤ field_count → Keeps body n) → first_failing (fields_kept body 1 field_count) ≡ none
@@ -406,9 +407,9 @@ module _ (craft : Craft) (bytes buffer : List ℕ) where
       let guidance = craft.guidance in
       let kind = kind_of (byte_at bytes 0) in
       let body = take (body_length kind) (drop 1 bytes) in
-      by_test SettlesHere (ltb (length buffer) answer_room) (λ small. (sym small, refl))
+      cond_both (ltb (length buffer) answer_room) _ _ SettlesHere (λ small. (sym small, refl))
       (λ room. judged_cases SettlesHere guidance bytes (sym room, refl) (sym room, refl)
-      (λ is_Known whole. rw room (whole_settles (body_length kind) (serve kind guidance body) (serve_takes kind guidance body is_Known))))
+      (λ is_known whole. rw room (whole_settles (body_length kind) (serve kind guidance body) (serve_takes kind guidance body is_known))))
 
   refusal_left : (refusal : Refusal) (taken : ℕ) → SettlesHere (record { verdict = Refused refusal; taken = taken })
       → Refusing craft bytes buffer (reason refusal) (answered craft (record { verdict = Refused refusal; taken = taken }) buffer)

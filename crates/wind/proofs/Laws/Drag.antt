@@ -1,19 +1,71 @@
--- The drag's slope is the same for an air velocity and its opposite. Assumes nothing.
-use Rattle.std.proofs.Common.{◌≡◌, Bool, true, false, cond, refl}
+-- The slope that the code hands on with an air velocity is the drag's slope there. Assumes nothing.
+use Rattle.std.proofs.Common.{◌≡◌, Bool, true, false, cond, refl, ◌∙◌}
+use Rattle.std.specs.Prelude.{Option, Some, None}
 use lib.Ieee.{Float, binary32, neg, lt}
 use Rattle.floats.proofs.Laws.Product.{neg_square}
+use Rattle.floats.specs.Ops.{◌⊘◌}
+use Rattle.floats.specs.Compare.{abs}
 use Rattle.math.specs.Math.{zero}
-use Rattle.wind.specs.Drag.{slope, against}
 use Rattle.wind.specs.declared.drag.AxisDrag.{AxisDrag}
+use Rattle.wind.specs.declared.drag.AirVelocity.TheVariants.{Unknown, Along}
+use Rattle.wind.specs.Drag.{slope, still_air, newton_step, against, air_velocity}
+use Rattle.wind.specs.Wind.{noise}
+use Rattle.wind.specs.Inner.{three_steps, air_and_slope, with_slope, noise_by_slope}
+
+-- ---- the slope is the same for an air velocity and its opposite
 
 slope_neg : (axis : AxisDrag) (air axial : Float) → slope axis (neg air) axial ≡ slope axis air axial
 unfolding slope
 slope_neg axis air axial = rw (neg_square binary32 air)
 
-pub slope_against : (axis : AxisDrag) (force speed axial : Float) → slope axis (against force speed) axial ≡ slope axis speed axial
+slope_against : (axis : AxisDrag) (force speed axial : Float) → slope axis (against force speed) axial ≡ slope axis speed axial
 unfolding against
 slope_against axis force speed axial = go (lt zero force)
   where
     go : (b : Bool) → slope axis (cond b (neg speed) speed) axial ≡ slope axis speed axial
     go true = slope_neg axis speed axial
     go false = refl
+
+-- ---- what is handed on
+
+module _ (axis : AxisDrag) (force axial : Float) where
+  pub slope_handed_on : air_and_slope axis force axial ≡ with_slope axis axial (air_velocity axis force axial)
+  unfolding air_and_slope with_slope air_velocity three_steps
+  slope_handed_on = go (lt zero axis.k_per_m) (lt zero axis.mu_per_s)
+    where
+      refined : Float → Float
+      refined = newton_step axis (abs force) axial
+
+      fourth : Float
+      fourth = refined (refined (refined (refined (still_air axis (abs force)))))
+
+      quotient : Float
+      quotient = against force (abs force ⊘ axis.mu_per_s)
+
+      go : (b c : Bool) → cond b (Along (against force fourth) (slope axis fourth axial)) (cond c (Along quotient (slope axis quotient axial)) Unknown)
+          ≡ with_slope axis axial (cond b (Some (against force fourth)) (cond c (Some quotient) None))
+      go true c = rw (slope_against axis force fourth axial)
+      go false true = refl
+      go false false = refl
+
+  pub air_handed_on : (air rise : Float) → Along air rise ≡ air_and_slope axis force axial
+      → (air_velocity axis force axial ≡ Some air) × (rise ≡ slope axis air axial)
+  unfolding with_slope
+  air_handed_on air rise e = go (air_velocity axis force axial) (e ∙ slope_handed_on)
+    where
+      go : (o : Option Float) → Along air rise ≡ with_slope axis axial o → (o ≡ Some air) × (rise ≡ slope axis air axial)
+      go None e = absurd cc
+      go (Some a) e = (cc, cc)
+
+  pub none_handed_on : Unknown ≡ air_and_slope axis force axial → air_velocity axis force axial ≡ None
+  unfolding with_slope
+  none_handed_on e = go (air_velocity axis force axial) (e ∙ slope_handed_on)
+    where
+      go : (o : Option Float) → Unknown ≡ with_slope axis axial o → o ≡ None
+      go None e = refl
+      go (Some a) e = absurd cc
+
+pub noise_handed_on : (force_noise : Float) (drag : AxisDrag) (predicted_air air axial : Float)
+    → noise_by_slope force_noise drag predicted_air (slope drag air axial) axial ≡ noise force_noise drag predicted_air air axial
+unfolding noise noise_by_slope
+noise_handed_on force_noise drag predicted_air air axial = refl

@@ -9,14 +9,14 @@ use Rattle.floats.specs.Compare.{abs}
 use Rattle.floats.proofs.Laws.Order.{neg_finite}
 use Rattle.floats.proofs.Laws.Sum.{finite_parts}
 use Rattle.floats.proofs.Laws.Product.{finite_factors}
-use Rattle.math.specs.Math.{all_finite, neu_to_ned}
+use Rattle.math.specs.Math.{gravity, all_finite, neu_to_ned}
 use Rattle.math.specs.declared.vectors.Vec3.{Vec3}
 use Rattle.math.specs.declared.vectors.Quaternion.{Quaternion}
 use Rattle.wind.specs.declared.state.VehicleState.{VehicleState}
 use Rattle.wind.specs.declared.sample.Sample.{Sample}
 use Rattle.wind.specs.declared.sample.Sampled.{Sampled}
 use Rattle.wind.specs.declared.sample.Sampled.TheVariants.{Nothing, Taken}
-use Rattle.wind.specs.Sample.{gravity, min_tilt_cosine, rotation, body_axes, dot3, specific_force_ned, sample_finite, along, from_state}
+use Rattle.wind.specs.Sample.{min_tilt_cosine, rotation, body_axes, dot3, specific_force_ned, sample_finite, along, from_state}
 
 pub either_way : {A : Type 0} (b : Bool) (x : A) → cond b x x ≡ x
 either_way true x = refl
@@ -149,9 +149,3 @@ unusable_skipped state limit (state_not_finite n) = go (from_state state limit) 
     go : (s : Sampled) → from_state state limit ≡ s → s ≡ Nothing
     go Nothing e = refl
     go (Taken sample) e = absurd (n (taken_finite state limit sample e))
-
--- and no other
-pub usable_taken : (state : VehicleState) (limit : Float) → lt (body_axes state.attitude).z.z min_tilt_cosine ≡ false
-    → lt limit (abs (sample_of state).axial_mps) ≡ false → sample_finite (sample_of state) ≡ true → from_state state limit ≡ Taken (sample_of state)
-unfolding from_state
-usable_taken state limit t f e = rw (t, f, e)

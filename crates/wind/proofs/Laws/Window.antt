@@ -1,18 +1,21 @@
 -- The window with accepted time steps: specs/Window.antt's `WindowCloses`, that it closes after at most 820 samples and at the least step at the
 -- 820th. So its count neither overflows nor loses a digit as a float, and the time elapsed is finite. Assumes nothing.
-use Rattle.std.proofs.Common.{◌≡◌, ℕ, zero, suc, ◌+◌, ◌%◌, ◌^◌, ◌≤◌, Bool, true, false, cond, T, ◌⊎◌, List, [], ◌∷◌, length, take, refl, ◌∙◌, inl, inr, ⊎_elim, le_of_suc-le-suc, add-zero, mul-le-mul_right, mod-eq_of_lt, lt_of_not-le, zero-add, arith, lit<, lit≤}
+use Rattle.std.proofs.Common.{◌≡◌, ℕ, zero, suc, ◌+◌, ◌%◌, ◌^◌, ◌≤◌, Bool, true, false, cond, T, ◌⊎◌, List, [], ◌∷◌, length, take}
+use Rattle.std.proofs.Common.{refl, ◌∙◌, inl, inr, ⊎_elim, le_of_suc-le-suc, add-zero, mul-le-mul_right, mod-eq_of_lt, lt_of_not-le, zero-add}
+use Rattle.std.proofs.Common.{arith, lit<, lit≤}
 use lib.Ieee.{Float, binary32, is_nan, of_bits, of_int, round, lt, le, add}
 use lib.Ieee.Back.{round_whole}
 use lib.Ieee.Exact.{HasValue}
 use lib.Ieee.Order.{round_mono}
 use lib.Ieee.Scale.{finite}
 use Rattle.floats.specs.Ops.{◌⊕◌}
-use Rattle.floats.proofs.Laws.Order.{+0, le_trans, le_lt_trans, lt→le, lt_excludes, le_not_lt, number, finite_between, finite→number}
+use Rattle.floats.proofs.Laws.Order.{+0, float_le_trans, le_lt_trans, lt→le, lt_excludes, le_not_lt, number, finite_between, finite→number}
 use Rattle.floats.proofs.Laws.Round.{round_number, round_nonneg}
 use Rattle.floats.proofs.Laws.Fractions.{add_alike}
 use Rattle.floats.proofs.Laws.Grid.{round_count}
 use Rattle.floats.proofs.Laws.Sum.{add_mono, add_finite_number}
 use Rattle.math.specs.Math.{one}
+use Rattle.controllers.specs.RateDivider.{shortest, Accepted}
 use Rattle.wind.specs.declared.state.VehicleState.{VehicleState}
 use Rattle.wind.specs.declared.drag.WindConfig.{WindConfig}
 use Rattle.wind.specs.declared.sample.Sample.{Sample}
@@ -24,13 +27,13 @@ use Rattle.wind.specs.declared.window.WindEstimator.{WindEstimator}
 use Rattle.wind.specs.Drag.{is_on}
 use Rattle.wind.specs.Sample.{from_state}
 use Rattle.wind.specs.Wind.{update_period, empty, grown, closed, fresh, gathered, taken, update}
-use Rattle.wind.specs.Window.{least_step, Accepted, steps, OpenWindow, OneMore, Updated, unchanged, open_still, finished}
+use Rattle.wind.specs.Window.{steps, OpenWindow, OneMore, Updated, unchanged, open_still, finished}
 use Rattle.wind.specs.Window.{AcceptedSample, updates, sums, LeastSteps, ClosesAt, WindowCloses}
 use Rattle.wind.proofs.Laws.Sample.{either_way}
 
 -- ---- time steps
 
-least_step_value : HasValue least_step false 1 4096
+least_step_value : HasValue shortest false 1 4096
 unfolding of_bits
 least_step_value = (refl, refl)
 
@@ -40,12 +43,12 @@ steps_value n h = round_count binary32 false n 12 (lit≤ tt) h
 steps_mono : (m n : ℕ) → m ≤ n → T (le (steps m) (steps n))
 steps_mono m n h = round_mono binary32 m 4096 n 4096 (lit< tt) (lit< tt) (mul-le-mul_right 4096 h)
 
-one_step_more : (n : ℕ) → n ≤ 2 ^ 24 → steps n ⊕ least_step ≡ steps (n + 1)
-one_step_more n h = add_alike binary32 (steps n) least_step false n 1 4096 (lit< tt) (steps_value n h) least_step_value
+one_step_more : (n : ℕ) → n ≤ 2 ^ 24 → steps n ⊕ shortest ≡ steps (n + 1)
+one_step_more n h = add_alike binary32 (steps n) shortest false n 1 4096 (lit< tt) (steps_value n h) least_step_value
 
 pub step_finite : (dt : Float) → Accepted dt → T (finite dt)
 unfolding of_bits
-step_finite dt a = finite_between least_step dt one tt tt a.at_least a.at_most
+step_finite dt a = finite_between shortest dt one tt tt a.at_least a.at_most
 
 -- ---- a window that is open
 
@@ -60,8 +63,9 @@ unfolding of_bits
 open_window w l s =
     let n = w.ticks in
     let t = w.elapsed_s in
-    let z = le_trans +0 (steps n) t (round_nonneg binary32 n 4096) l in
-    let past : 820 ≤ n → T (le update_period t) = λ h. le_trans update_period (steps 820) t period_passed (le_trans (steps 820) (steps n) t (steps_mono 820 n h) l) in
+    let z = float_le_trans +0 (steps n) t (round_nonneg binary32 n 4096) l in
+    let past : 820 ≤ n → T (le update_period t) =
+    λ h. float_le_trans update_period (steps 820) t period_passed (float_le_trans (steps 820) (steps n) t (steps_mono 820 n h) l) in
     record {
       few = lt_of_not-le (λ (h : 820 ≤ n). lt_excludes t update_period s (past h));
       long = l;
@@ -89,14 +93,14 @@ module _ (w : Window) (dt : Float) (o : OpenWindow w) (a : Accepted dt) where
   sum_long =
       let n = w.ticks in
       let e = one_step_more n (omega (arith, o.few)) in
-      let p : T (number (steps n ⊕ least_step)) = rw e (round_number binary32 false (n + 1) 4096) in
-      rw e at (add_mono binary32 (steps n) w.elapsed_s least_step dt o.long a.at_least p sum_number)
+      let p : T (number (steps n ⊕ shortest)) = rw e (round_number binary32 false (n + 1) 4096) in
+      rw e at (add_mono binary32 (steps n) w.elapsed_s shortest dt o.long a.at_least p sum_number)
 
   sum_finite : T (finite (w.elapsed_s ⊕ dt))
   sum_finite =
       let t = w.elapsed_s in
       finite_between +0 (t ⊕ dt) (update_period ⊕ one) tt period_and_step_finite
-      (le_trans +0 (steps (w.ticks + 1)) (t ⊕ dt) (round_nonneg binary32 (w.ticks + 1) 4096) sum_long)
+      (float_le_trans +0 (steps (w.ticks + 1)) (t ⊕ dt) (round_nonneg binary32 (w.ticks + 1) 4096) sum_long)
       (add_mono binary32 t update_period dt one (lt→le t update_period o.short) a.at_most sum_number
       (finite→number (update_period ⊕ one) period_and_step_finite))
 
@@ -176,7 +180,7 @@ unfolding update taken
 update_gathers self config next on = rw (on, next.is_taken)
 
 updates_same : (config : WindConfig) (samples : List (AcceptedSample config)) {a b : WindEstimator} → a ≡ b
-    → updates a config samples ≡ updates b config samples
+    → updates config a samples ≡ updates config b samples
 updates_same config samples e = rw e
 
 module _ (self : WindEstimator) (config : WindConfig) (next : AcceptedSample config) (samples : List (AcceptedSample config))

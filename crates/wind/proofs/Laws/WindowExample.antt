@@ -7,12 +7,13 @@ use Rattle.floats.specs.Ops.{f32}
 use Rattle.floats.specs.Compare.{abs}
 use Rattle.math.specs.Math.{zero, tenth, half, one, all_finite}
 use Rattle.math.specs.Vectors.{zeros}
+use Rattle.controllers.specs.RateDivider.{shortest}
 use Rattle.wind.specs.declared.state.VehicleState.{VehicleState}
 use Rattle.wind.specs.declared.drag.WindConfig.{WindConfig}
 use Rattle.wind.specs.Drag.{is_on}
 use Rattle.wind.specs.Sample.{rotation, body_axes, specific_force_ned, sample_finite, along, from_state}
 use Rattle.wind.specs.Wind.{fresh}
-use Rattle.wind.specs.Window.{least_step, AcceptedSample, LeastSteps, ClosesAt}
+use Rattle.wind.specs.Window.{AcceptedSample, LeastSteps, ClosesAt}
 use Rattle.wind.proofs.Laws.Window.{window_closes}
 
 -- momentum drag of 0.3 on both axes
@@ -48,7 +49,7 @@ unfoldable pub sample_taken_example : AcceptedSample with_drag
 unfolding from_state along body_axes rotation specific_force_ned sample_finite all_finite abs of_bits neg add sub mul lt le
 sample_taken_example =
     record {
-      dt = least_step;
+      dt = shortest;
       state = at_rest;
       sample = along (body_axes at_rest.attitude) at_rest;
       step_accepted = record { at_least = tt; at_most = tt };

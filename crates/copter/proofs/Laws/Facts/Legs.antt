@@ -14,6 +14,8 @@ use Rattle.math.proofs.Laws.Wrap.{wrap_finite}
 use Rattle.wind.specs.declared.state.VehicleState.{VehicleState}
 use Rattle.heading.specs.HoverWind as hover
 use Rattle.heading.specs.LegHeading.{New, with_wind}
+use Rattle.heading.specs.LegHeading as leg
+use Rattle.heading.specs.WindHeading as wind
 use Rattle.heading.specs.declared.HeadingConfig.{HeadingConfig}
 use Rattle.heading.specs.declared.leg_heading.LegHeading.{LegHeading}
 use Rattle.heading.proofs.Laws.Equality.{vector_numbers}
@@ -70,7 +72,7 @@ module _ (self : CopterGuidance) (dt : Float) (state : VehicleState) (command : 
         heads.to_target (rw e (wrap_finite state.heading_rad q f)) ∙ ap wrap_angle e
 
     pub waypoint_legs : Legs self dt state command (waypoint_call self dt state command)
-    unfolding waypoint_call fly_to with_wind
+    unfolding waypoint_call fly_to with_wind leg.fresh wind.fresh
     waypoint_legs =
         record {
           new_position = new_position;

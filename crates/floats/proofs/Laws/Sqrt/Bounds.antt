@@ -6,15 +6,11 @@ use lib.Arith.{lt_of_le-ne}
 use lib.Ieee.{Float, Format, prec, low, round, le}
 use lib.Ieee.Fits.{eq→eqb}
 use lib.Ieee.Order.{round_mono}
-use Rattle.floats.specs.Sqrt.{whole_root, scale, root_of}
+use Rattle.floats.specs.Sqrt.{scale, square, whole_part, root_of}
 use Rattle.floats.proofs.Laws.Sqrt.WholeRoot.{next_square, lt_of_squares, le_of_squares, whole_root_is}
 use Rattle.floats.proofs.Laws.Sqrt.Rounding.{round_as_middle}
 
 -- ---- what the definition works out
-
--- num at the square of the root's scale
-abbrev pub square : Format → ℕ → ℕ
-square f num = num * (scale f * scale f)
 
 -- the digit that tells a from a larger b
 pub data LeftOver (digit a b : ℕ) : Type 0 where
@@ -30,18 +26,23 @@ pub record Rounded (f : Format) (num den : ℕ) : Type 0 where
   pub below : square f num < (whole + 1) * (whole + 1) * den
   pub rest : LeftOver digit (whole * whole * den) (square f num)
 
+-- the whole part at the root's scale
+part_is : (f : Format) (num den : ℕ) → 0 < den
+    → (whole_part f num den * whole_part f num den * den ≤ square f num) × (square f num < (whole_part f num den + 1) * (whole_part f num den + 1) * den)
+part_is f num den D = let w = whole_root_is (square f num / den) in ((le-div_iff_mul-le D).0 w.0, (div-lt_iff_lt-mul D).0 w.1)
+
 pub rounded : (f : Format) (num den : ℕ) → 0 < den → Rounded f num den
 unfolding root_of
 rounded f num den D =
-    let r = whole_root (square f num / den) in
-    let at_least = (le-div_iff_mul-le D).0 (whole_root_is (square f num / den)).0 in
+    let r = whole_part f num den in
+    let part = part_is f num den D in
     record {
       whole = r;
       digit = cond (eqb (r * r * den) (square f num)) 0 1;
       value = refl;
-      at_least = at_least;
-      below = (div-lt_iff_lt-mul D).0 (whole_root_is (square f num / den)).1;
-      rest = by_test (r * r * den) (square f num) at_least (eqb (r * r * den) (square f num)) (eqb→eq (r * r * den) (square f num)) eq→eqb;
+      at_least = part.0;
+      below = part.1;
+      rest = by_test (r * r * den) (square f num) part.0 (eqb (r * r * den) (square f num)) (eqb→eq (r * r * den) (square f num)) eq→eqb;
     }
   where
     by_test : (a b : ℕ) → a ≤ b → (t : Bool) → (T t → a ≡ b) → (a ≡ b → T t) → LeftOver (cond t 0 1) a b

@@ -9,10 +9,9 @@ use lib.Ieee.Digits.{size-lt, size_reaches, back}
 use lib.Ieee.Fits.{two}
 use lib.Ieee.Exact.{HasValue, units_val}
 use lib.Ieee.Positive.{num, den, den_pos, positive, positive-finite, first_pos, value_pos}
-use Rattle.floats.specs.Sqrt.{whole_root, sqrt}
+use Rattle.floats.specs.Sqrt.{whole_root, square, sqrt}
 use Rattle.floats.proofs.Laws.Sqrt.WholeRoot.{IsRoot, lt_of_squares, le_of_squares, whole_root_is}
 use Rattle.floats.proofs.Laws.Sqrt.Rounding.{twice_pow}
-use Rattle.floats.proofs.Laws.Sqrt.Bounds.{square}
 use Rattle.floats.proofs.Laws.Sqrt.Values.{InUnits, in_units, value_of}
 use Rattle.floats.proofs.Laws.Sqrt.Digits.{even_not_odd, odd_square, root_by_digits}
 use Rattle.floats.proofs.Laws.Sqrt.Special.{sqrt_positive}

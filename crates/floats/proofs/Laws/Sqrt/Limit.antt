@@ -1,28 +1,27 @@
--- A root against a limit m from 2 ^ -60 to 2 ^ 60, told by squares alone: the root of s is at most m where s is at most m * m (`root_within`),
--- and above m where s is at least the square of 2 * m (`root_beyond`). Assumes nothing.
-use Rattle.std.proofs.Common.{◌≡◌, ℕ, suc, ◌*◌, ◌^◌, ◌<◌, ◌≤◌, Bool, true, false, not, T, pos, negsuc, refl, ◌∙◌, subst, ⊎_elim, le_trans, le_of_eq, zero-lt-suc, mul-lt-mul_of_pos_right, mul-pos, one-mul, mul-one, arith, lit<, T_not, pow_pos}
+-- A root against a limit m from 2 ^ -k to 2 ^ k, told by squares alone: the root of s is at most m where s is at most m * m (`root_within`),
+-- and above m where s is at least the square of 2 * m (`root_beyond`). In any format with an exponent above 2 * k. Assumes nothing.
+use Rattle.std.proofs.Common.{◌+◌, pow-suc, lt_of_le_of_lt, sym, ap, ◌≡◌, ℕ, suc, ◌*◌, ◌^◌, ◌<◌, ◌≤◌, Bool, true, false, not, T, pos, negsuc, refl, ◌∙◌, subst, ⊎_elim, le_trans, le_of_eq, zero-lt-suc, mul-lt-mul_of_pos_right, mul-pos, one-mul, mul-one, arith, T_not, pow_pos}
 use lib.Dec.{not_T}
-use lib.Ieee
-use lib.Ieee.{Float, fin, Format, binary32, emax, mul, add, fits, le, lt, of_bits}
+use lib.Pow.{pow-lt}
+use lib.Ieee.{Float, fin, Format, low, emax, mul, add, fits, le, lt, inf, nan}
 use lib.Ieee.Bits.{is_true, is_false}
 use lib.Ieee.Fits.{mul-fits}
 use lib.Ieee.Exact.{HasValue}
-use lib.Ieee.Positive.{num, den, den_pos, positive, positive-finite, own_value, value_pos, le→cross}
+use lib.Ieee.Positive.{num, den, den_pos, positive, positive-finite, own_value, value_pos}
 use lib.Ieee.Scale.{finite}
 use Rattle.floats.specs.Compare.{is_negative}
-use Rattle.floats.specs.Ops.{◌⊗◌}
 use Rattle.floats.specs.Sqrt.{sqrt}
 use Rattle.floats.proofs.Laws.Order
 use Rattle.floats.proofs.Laws.Order.{+0}
 use Rattle.floats.proofs.Laws.Round.{fits→holds, value_sign, le_of_fractions, lt_of_fractions}
 use Rattle.floats.proofs.Laws.Grid.{mul_power_exact}
 use Rattle.floats.proofs.Laws.Sum.{add_numbers, add_nonneg}
-use Rattle.floats.proofs.Laws.Product.{unlike_false, mul_comm, mul_numbers, square_nonneg}
+use Rattle.floats.proofs.Laws.Product.{unlike_false, float_mul_comm, mul_numbers, square_nonneg}
 use Rattle.floats.proofs.Laws.Sqrt.{sqrt_mono, sqrt_nonneg}
-use Rattle.floats.proofs.Laws.Sqrt.Square.{lowest, highest, twice_highest, positive_in_range, sqrt_square}
+use Rattle.floats.proofs.Laws.Sqrt.Square.{lowest, highest, lowest_value, highest_value, InRange, range_positive, den_below, num_below, sqrt_square}
 
 abbrev pub two : Float
-two = of_bits binary32 0x4000_0000
+two = fin false 1 (pos 1)
 
 -- ---- what is at least zero is not below it
 not_below : (x : Float) → T (le +0 x) → T (not (lt x +0))
@@ -38,56 +37,52 @@ squares_not_below f x y =
     Order.lt_excludes s +0 l (add_nonneg f (mul f x x) (mul f y y) (square_nonneg f x (mul_numbers f x x n.0).0) (square_nonneg f y (mul_numbers f y y n.1).0)))
 
 -- ---- the root of s against m
-module _ (m : Float) (fit : T (fits binary32 m)) (low : T (le lowest m)) (high : T (le m twice_highest)) where
-  nonneg : T (le +0 (m ⊗ m))
-  nonneg = square_nonneg binary32 m (Order.le_numbers lowest m low).1
+module _ (f : Format) (k : ℕ) (room : k + k < emax f) (m : Float) (fit : T (fits f m)) (within : InRange k m) where
+  nonneg : T (le +0 (mul f m m))
+  nonneg = square_nonneg f m (Order.le_numbers (lowest k) m within.at_least).1
 
   module _ (s : Float) where
-    pub root_at_most : T (not (lt s +0)) → T (le s (m ⊗ m)) → T (le (sqrt binary32 s) m)
-    root_at_most n h = subst (λ (z : Float). T (le (sqrt binary32 s) z)) (sqrt_square m fit low high) (sqrt_mono binary32 s (m ⊗ m) n (not_below (m ⊗ m) nonneg) h)
+    pub root_at_most : T (not (lt s +0)) → T (le s (mul f m m)) → T (le (sqrt f s) m)
+    root_at_most n h = subst (λ (z : Float). T (le (sqrt f s) z)) (sqrt_square f k room m fit within) (sqrt_mono f s (mul f m m) n (not_below (mul f m m) nonneg) h)
 
-    pub root_at_least : T (le (m ⊗ m) s) → T (le m (sqrt binary32 s))
+    pub root_at_least : T (le (mul f m m) s) → T (le m (sqrt f s))
     root_at_least h =
-        subst (λ (z : Float). T (le z (sqrt binary32 s))) (sqrt_square m fit low high)
-        (sqrt_mono binary32 (m ⊗ m) s (not_below (m ⊗ m) nonneg) (not_below s (Order.le_trans +0 (m ⊗ m) s nonneg h)) h)
+        subst (λ (z : Float). T (le z (sqrt f s))) (sqrt_square f k room m fit within)
+        (sqrt_mono f (mul f m m) s (not_below (mul f m m) nonneg) (not_below s (Order.float_le_trans +0 (mul f m m) s nonneg h)) h)
 
-    pub root_finite : T (not (lt s +0)) → T (le s (m ⊗ m)) → T (finite (sqrt binary32 s))
+    root_finite : T (not (lt s +0)) → T (le s (mul f m m)) → T (finite (sqrt f s))
     root_finite n h =
-        let k : T (le +0 s) = ⊎_elim (λ l. l) (λ l. absurd (T_not (lt s +0) n l)) (Order.le_or_lt +0 s (Order.finite→number +0 tt) (Order.le_numbers s (m ⊗ m) h).0) in
-        Order.finite_between +0 (sqrt binary32 s) m tt (positive-finite m (positive_in_range m low high)) (sqrt_nonneg binary32 s k) (root_at_most n h)
+        let l : T (le +0 s) = ⊎_elim (λ l. l) (λ l. absurd (T_not (lt s +0) n l)) (Order.le_or_lt +0 s (Order.finite→number +0 tt) (Order.le_numbers s (mul f m m) h).0) in
+        Order.finite_between +0 (sqrt f s) m tt (positive-finite m (range_positive k m within)) (sqrt_nonneg f s l) (root_at_most n h)
 
 -- ---- twice the limit is exact, and above it
-den_upto : (f : Format) (x : Float) → T (fits f x) → T (finite x) → den x ≤ 2 ^ Ieee.low f
-den_upto f (fin s m (pos k)) t p = pow_pos (Ieee.low f)
-den_upto f (fin s m (negsuc k)) t p = le_trans (fits→holds f s m (negsuc k) t).lowest (le_of_eq (one-mul (2 ^ Ieee.low f)))
+den_upto : (f : Format) (x : Float) → T (fits f x) → T (finite x) → den x ≤ 2 ^ low f
+den_upto f (fin s m (pos k)) t p = pow_pos (low f)
+den_upto f (fin s m (negsuc k)) t p = le_trans (fits→holds f s m (negsuc k) t).lowest (le_of_eq (one-mul (2 ^ low f)))
+den_upto f nan t p = elim p [ ]
+den_upto f (inf _) t p = elim p [ ]
 
-module _ (m : Float) (fit : T (fits binary32 m)) (low : T (le lowest m)) (high : T (le m highest)) where
+module _ (f : Format) (k : ℕ) (room : suc k + suc k < emax f) (m : Float) (fit : T (fits f m)) (within : InRange k m) where
   abbrev double : Float
-  double = two ⊗ m
-
-  within_twice : T (le m twice_highest)
-  unfolding of_bits le lt
-  within_twice = Order.le_trans m highest twice_highest high tt
+  double = mul f two m
 
   m_positive : T (positive m)
-  m_positive = positive_in_range m low within_twice
-
-  upto_highest : num m ≤ 2 ^ 60 * den m
-  unfolding of_bits
-  upto_highest = omega (arith, le→cross m highest m_positive tt high)
+  m_positive = range_positive k m within
 
   double_value : HasValue double false (num m * 2) (den m * 1)
-  unfolding of_bits
   double_value =
       let sign = unlike_false (is_negative m) ∙ value_sign m false (num m) (den m) (own_value m m_positive) in
-      rw (mul_comm binary32 two m)
-      (subst (λ (t : Bool). HasValue (m ⊗ two) t (num m * 2) (den m * 1)) sign
-      (mul_power_exact binary32 m two false 1 0 fit (positive-finite m m_positive) (refl, refl)
-      (no_lower (den m) (2 ^ Ieee.low binary32) (den_upto binary32 m fit (positive-finite m m_positive)))
-      (no_overflow (2 ^ 60) (2 ^ suc (emax binary32)) (num m) (den m) upto_highest (lit< tt) (den_pos m))))
+      rw (float_mul_comm f two m)
+      (subst (λ (t : Bool). HasValue (mul f m two) t (num m * 2) (den m * 1)) sign
+      (mul_power_exact f m two false 1 0 fit (positive-finite m m_positive) (refl, refl)
+      (no_lower (den m) (2 ^ low f) (den_upto f m fit (positive-finite m m_positive)))
+      (no_overflow (2 ^ k) (2 ^ suc (emax f)) (num m) (den m) (num_below k m within) under (den_pos m))))
     where
       no_lower : (d l : ℕ) → d ≤ l → d * 1 ≤ l * 2
       no_lower d l h = omega arith
+
+      under : 2 ^ k * 2 < 2 ^ suc (emax f)
+      under = lt_of_le_of_lt (le_of_eq (sym (pow-suc 2 k))) (pow-lt (omega arith))
 
       no_overflow : (k e n d : ℕ) → n ≤ k * d → k * 2 < e → 0 < d → n * 2 < e * (d * 1)
       no_overflow k e n d h j D = omega (arith, mul-lt-mul_of_pos_right j D)
@@ -99,31 +94,34 @@ module _ (m : Float) (fit : T (fits binary32 m)) (low : T (le lowest m)) (high :
       lt_of_fractions m double false (num m) (den m) false (num m * 2) (den m * 1) D (rw (mul-one (den m)) D) (own_value m m_positive) double_value
       (omega (arith, mul-pos N D))
 
-  double_low : T (le lowest double)
-  double_low = Order.le_trans lowest m double low (Order.lt→le m double lt_double)
+  double_within : InRange (suc k) double
+  double_within =
+      let D : 0 < den m * 1 = rw (mul-one (den m)) (den_pos m) in
+      let e = pow-suc 2 k in
+      record {
+        at_least = le_of_fractions (lowest (suc k)) double false 1 (2 ^ suc k) false (num m * 2) (den m * 1) (pow_pos (suc k)) D (lowest_value (suc k)) double_value
+            (omega (arith, den_below k m within, ap (λ (y : ℕ). num m * y) e));
+        at_most = le_of_fractions double (highest (suc k)) false (num m * 2) (den m * 1) false (2 ^ suc k) 1 D (zero-lt-suc 0) double_value (highest_value (suc k))
+            (omega (arith, num_below k m within, ap (λ (y : ℕ). y * den m) e));
+      }
 
-  double_high : T (le double twice_highest)
-  unfolding of_bits
-  double_high = le_of_fractions double twice_highest false (num m * 2) (den m * 1) false (2 ^ 61) 1 (rw (mul-one (den m)) (den_pos m)) (zero-lt-suc 0) double_value (refl, refl) (omega (arith, upto_highest))
-
-  pub root_above : (s : Float) → T (le (double ⊗ double) s) → T (lt m (sqrt binary32 s))
-  root_above s h = Order.lt_le_trans m double (sqrt binary32 s) lt_double (root_at_least double (mul-fits binary32 two m) double_low double_high s h)
+  root_above : (s : Float) → T (le (mul f double double) s) → T (lt m (sqrt f s))
+  root_above s h = Order.lt_le_trans m double (sqrt f s) lt_double (root_at_least f (suc k) room double (mul-fits f two m) double_within s h)
 
 -- ---- as tests
-pub root_within : (m s : Float) → T (fits binary32 m) → T (le lowest m) → T (le m highest) → T (not (lt s +0)) → T (le s (m ⊗ m))
-    → (le (sqrt binary32 s) m ≡ true) × (lt m (sqrt binary32 s) ≡ false) × (finite (sqrt binary32 s) ≡ true)
-root_within m s fit low high n h =
-    let k = within_twice m fit low high in
-    let l = root_at_most m fit low k s n h in (
-      is_true (le (sqrt binary32 s) m) l,
-      is_false (lt m (sqrt binary32 s)) (not_T (lt m (sqrt binary32 s)) (λ g. Order.lt_excludes m (sqrt binary32 s) g l)),
-      is_true (finite (sqrt binary32 s)) (root_finite m fit low k s n h),
+pub root_within : (f : Format) (k : ℕ) (m s : Float) → k + k < emax f → T (fits f m) → InRange k m → T (not (lt s +0)) → T (le s (mul f m m))
+    → (le (sqrt f s) m ≡ true) × (lt m (sqrt f s) ≡ false) × (finite (sqrt f s) ≡ true)
+root_within f k m s room fit within n h =
+    let l = root_at_most f k room m fit within s n h in (
+      is_true (le (sqrt f s) m) l,
+      is_false (lt m (sqrt f s)) (not_T (lt m (sqrt f s)) (λ g. Order.lt_excludes m (sqrt f s) g l)),
+      is_true (finite (sqrt f s)) (root_finite f k room m fit within s n h),
     )
 
-pub root_beyond : (m s : Float) → T (fits binary32 m) → T (le lowest m) → T (le m highest) → T (le (two ⊗ m ⊗ (two ⊗ m)) s)
-    → (le (sqrt binary32 s) m ≡ false) × (lt m (sqrt binary32 s) ≡ true)
-root_beyond m s fit low high h =
-    let l = root_above m fit low high s h in (
-      is_false (le (sqrt binary32 s) m) (not_T (le (sqrt binary32 s) m) (λ g. Order.lt_excludes m (sqrt binary32 s) l g)),
-      is_true (lt m (sqrt binary32 s)) l,
+pub root_beyond : (f : Format) (k : ℕ) (m s : Float) → suc k + suc k < emax f → T (fits f m) → InRange k m → T (le (mul f (mul f two m) (mul f two m)) s)
+    → (le (sqrt f s) m ≡ false) × (lt m (sqrt f s) ≡ true)
+root_beyond f k m s room fit within h =
+    let l = root_above f k room m fit within s h in (
+      is_false (le (sqrt f s) m) (not_T (le (sqrt f s) m) (λ g. Order.lt_excludes m (sqrt f s) l g)),
+      is_true (lt m (sqrt f s)) l,
     )

@@ -1,25 +1,24 @@
 -- The root of a positive value of a format is the format's nearest value to √x: the bounds on the root in units, brought to fractions. Assumes nothing.
-use Rattle.std.proofs.Common.{◌≡◌, ℕ, ◌+◌, ◌-◌, ◌*◌, ◌/◌, ◌^◌, ◌<◌, true, false, T, sym, ap, ◌∙◌, ap₂, subst₂, true≢false, le_trans, lt_trans, le_of_eq, lt_of_lt_of_le, le_of_suc-le-suc, le-add_right, lt_of_le_of_lt, lt_irrefl, mul-le-mul_right, mul_assoc, mul_comm, add-mul, add_comm, lt_of_mul-lt-mul_right, mul-lt-mul_of_pos_right, mul-pos, one-mul, pow-suc, lt_of_not-le, zero-mul, mul_right_comm, mul_left_comm, sub-le, ltb→lt, lt→ltb, pow_pos}
-use native.Mathlib.Nat.{pow-zero, pow-le-pow_left}
-use lib.Ieee.{Float, fin, Format, prec, low, up, down, fits, lt, le}
+use Rattle.std.proofs.Common.{⊎_elim, arith, ◌≡◌, ℕ, ◌+◌, ◌-◌, ◌*◌, ◌/◌, ◌^◌, ◌<◌, true, false, T, sym, ap, ◌∙◌, ap₂, subst₂, true≢false, le_trans, lt_trans, le_of_eq, lt_of_lt_of_le, le-add_right, lt_of_le_of_lt, lt_irrefl, mul-le-mul_right, mul_assoc, mul_comm, add-mul, add_comm, lt_of_mul-lt-mul_right, mul-lt-mul_of_pos_right, mul-pos, zero-mul, mul_right_comm, mul_left_comm, sub-le, ltb→lt, pow_pos}
+use native.Mathlib.Nat.{pow-le-pow_left}
+use lib.Ieee.{Float, fin, Format, prec, low, up, down, fits, lt, le, inf, nan}
 use lib.Ieee.Fits.{two, down_pos}
 use lib.Ieee.Exact.{HasValue}
 use lib.Ieee.Scale.{finite}
-use lib.Ieee.Positive.{num, den, den_pos, positive, positive-finite, positive_of_value, first_pos, cross→le}
+use lib.Ieee.Positive.{num, den, den_pos, positive, positive-finite, positive_of_value, first_pos, between}
 use Rattle.floats.specs.Compare.{is_negative}
 use Rattle.floats.specs.Sqrt.{sqrt}
+use Rattle.floats.specs.Root.{over, under, sum, MidpointBelow, MidpointAbove, IsNearest}
+use Rattle.floats.proofs.Laws.Order.{le_or_lt, finite→number}
+use Rattle.floats.proofs.Laws.Sqrt.WholeRoot.{square_is}
 use Rattle.floats.proofs.Laws.Sqrt.Values.{in_units, le_antisymm_positive}
 use Rattle.floats.proofs.Laws.Sqrt.Leading.{Measured, measured, midpoint_below, midpoint_above}
-use Rattle.floats.proofs.Laws.Sqrt.Midpoint.{sum, MidpointBelow, MidpointAbove, IsNearest}
 
 -- From units to fractions. L is the number of units in 1: s / D is t units, and n / d is X units.
 module _ (s t D n d X L : ℕ) (in_units_of_s : s * L ≡ t * D) (in_units_of_n : n * L ≡ X * d) where
-  squared : (a : ℕ) → a ^ 2 ≡ a * a
-  squared a = pow-suc a 1 ∙ ap (λ (x : ℕ). x * a) (pow-suc a 0 ∙ ap (λ (x : ℕ). x * a) (pow-zero a) ∙ one-mul a)
-
   squared_left : s ^ 2 * d * (L * (L * L)) ≡ t * t * (D * D * d * L)
   squared_left =
-      ap (λ (x : ℕ). x * d * (L * (L * L))) (squared s)
+      ap (λ (x : ℕ). x * d * (L * (L * L))) (square_is s)
       ∙ apart s d L
       ∙ ap (λ (x : ℕ). x * x * (d * L)) in_units_of_s
       ∙ together t D (d * L)
@@ -33,7 +32,7 @@ module _ (s t D n d X L : ℕ) (in_units_of_s : s * L ≡ t * D) (in_units_of_n 
 
   squared_right : 4 * n * D ^ 2 * (L * (L * L)) ≡ 4 * (X * L) * (D * D * d * L)
   squared_right =
-      ap (λ (x : ℕ). 4 * n * x * (L * (L * L))) (squared D)
+      ap (λ (x : ℕ). 4 * n * x * (L * (L * L))) (square_is D)
       ∙ apart n D L
       ∙ ap (λ (x : ℕ). 4 * (x * (D * D * (L * L)))) in_units_of_n
       ∙ together X d D L
@@ -74,6 +73,13 @@ module _ (a b Y c e Q L : ℕ) (in_units_of_a : a * L ≡ Y * b) (in_units_of_c 
   gt_in_units : 0 < L → c * b < a * e → Q < Y
   gt_in_units R h = lt_of_mul-lt-mul_right (b * e) (lt_of_le_of_lt (le_of_eq (sym cross_c)) (lt_of_lt_of_le (mul-lt-mul_of_pos_right h R) (le_of_eq cross_a)))
 
+-- a sum by the signs: both above zero, and one below
+pub total : (a b u v : ℕ) → a + b - (0 * v + 0 * u) ≡ a + b
+total a b u v = omega arith
+
+difference : (a b u v : ℕ) → a + 0 * u - (0 * v + b) ≡ a - b
+difference a b u v = omega arith
+
 module _ (f : Format) (x : Float) (M : Measured f x) where
   root : ℕ
   root = (M.first.h + 1) / 2 * 2 ^ M.first.k
@@ -113,10 +119,16 @@ module _ (f : Format) (x : Float) (M : Measured f x) where
   below_at : (z : Float) → HasValue z false root (2 ^ low f) → (y : Float) → T (fits f y) → T (finite y) → T (lt y z) → MidpointBelow y z x
   unfolding lt is_negative
   below_at (fin true m e) v y fit t l = absurd (true≢false v.0)
-  below_at (fin false m e) v (fin true n d) fit t l = negative_below (n * up d) (down d) (m * up e) (down e) (down_pos d) (down_pos e) v.1
+  below_at (fin false m e) v (fin true n d) fit t l =
+      rw (difference (m * up e * down d) (n * up d * down e) (down e) (down d)) (negative_below (n * up d) (down d) (m * up e) (down e) (down_pos d) (down_pos e) v.1)
   below_at (fin false m e) v (fin false n d) fit t l =
       let u = in_units f (fin false n d) fit tt in
-      below_root (n * up d) (down d) (m * up e) (down e) u.digits u.place (down_pos d) (down_pos e) u.few u.equals v.1 (ltb→lt (n * up d * down e) (m * up e * down d) l)
+      rw (total (m * up e * down d) (n * up d * down e) (down e) (down d))
+      (below_root (n * up d) (down d) (m * up e) (down e) u.digits u.place (down_pos d) (down_pos e) u.few u.equals v.1 (ltb→lt (n * up d * down e) (m * up e * down d) l))
+  below_at nan v y fit t l = elim v [ ]
+  below_at (inf _) v y fit t l = elim v [ ]
+  below_at (fin false m e) v nan fit t l = elim t [ ]
+  below_at (fin false m e) v (inf _) fit t l = elim t [ ]
 
   above_at : (z : Float) → HasValue z false root (2 ^ low f) → (y : Float) → T (fits f y) → T (finite y) → T (lt z y) → MidpointAbove y z x
   unfolding lt is_negative
@@ -124,7 +136,12 @@ module _ (f : Format) (x : Float) (M : Measured f x) where
   above_at (fin false m e) v (fin true n d) fit t l = absurd l
   above_at (fin false m e) v (fin false n d) fit t l =
       let u = in_units f (fin false n d) fit tt in
-      above_root (n * up d) (down d) (m * up e) (down e) u.digits u.place (down_pos d) (down_pos e) u.few u.equals v.1 (ltb→lt (m * up e * down d) (n * up d * down e) l)
+      rw (total (m * up e * down d) (n * up d * down e) (down e) (down d))
+      (above_root (n * up d) (down d) (m * up e) (down e) u.digits u.place (down_pos d) (down_pos e) u.few u.equals v.1 (ltb→lt (m * up e * down d) (n * up d * down e) l))
+  above_at nan v y fit t l = elim v [ ]
+  above_at (inf _) v y fit t l = elim v [ ]
+  above_at (fin false m e) v nan fit t l = elim t [ ]
+  above_at (fin false m e) v (inf _) fit t l = elim t [ ]
 
 pub nearest : (f : Format) (x : Float) → T (fits f x) → T (positive x) → IsNearest f x (sqrt f x)
 unfolding root
@@ -135,25 +152,24 @@ unfolding root
 root_positive f x fit p = let M = measured f x fit p in positive_of_value (sqrt f x) (root f x M) (2 ^ low f) M.value M.root_pos
 
 -- ---- two values are not both nearest: their midpoint would lie on both sides of √x
-cross→lt : (x y : Float) → T (positive x) → T (positive y) → num x * den y < num y * den x → T (lt x y)
-unfolding lt
-cross→lt (fin false m e) (fin false n d) p q h = lt→ltb (m * up e * down d) (n * up d * down e) h
+sum_swaps : (y z : Float) → sum y z ≡ sum z y
+sum_swaps y z = ap₂ (λ (a b : ℕ). a - b) (add_comm (over z * den y) (over y * den z)) (add_comm (under z * den y) (under y * den z))
 
-sum_swaps : (y z : Float) → T (positive y) → T (positive z) → sum y z ≡ sum z y
-unfolding is_negative
-sum_swaps (fin false m e) (fin false n d) p q = add_comm (n * up d * down e) (m * up e * down d)
+module _ (f : Format) (x y z : Float) (y_fits : T (fits f y)) (z_fits : T (fits f z)) (y_finite : T (finite y)) (z_finite : T (finite z))
+    (Y : IsNearest f x y) (Z : IsNearest f x z) where
+  not_both : T (lt y z) → ⊥
+  not_both l =
+      lt_irrefl (4 * num x * (den y * den z) ^ 2)
+      (lt_trans
+      (subst₂ (λ (d s : ℕ). 4 * num x * d ^ 2 < s ^ 2 * den x) (mul_comm (den z) (den y)) (sum_swaps z y) (Y.above z z_fits z_finite l))
+      (Z.below y y_fits y_finite l))
 
-module _ (f : Format) (x y z : Float) (y_fits : T (fits f y)) (z_fits : T (fits f z)) (y_pos : T (positive y)) (z_pos : T (positive z)) where
-  nearest_le : IsNearest f x y → IsNearest f x z → T (le z y)
-  nearest_le Y Z = cross→le z y z_pos y_pos (le_of_suc-le-suc (lt_of_not-le (λ h. not_both (cross→lt y z y_pos z_pos h))))
-    where
-      not_both : T (lt y z) → ⊥
-      not_both l =
-          lt_irrefl (4 * num x * (den y * den z) ^ 2)
-          (lt_trans
-          (subst₂ (λ (d s : ℕ). 4 * num x * d ^ 2 < s ^ 2 * den x) (mul_comm (den z) (den y)) (sum_swaps z y z_pos y_pos) (Y.above z z_fits (positive-finite z z_pos) l))
-          (Z.below y y_fits (positive-finite y y_pos) l))
+  not_above : T (le z y)
+  not_above = ⊎_elim (λ h. h) (λ h. absurd (not_both h)) (le_or_lt z y (finite→number z z_finite) (finite→number y y_finite))
 
-pub nearest_unique : (f : Format) (x y z : Float) → T (fits f y) → T (fits f z) → T (positive y) → T (positive z) → IsNearest f x y → IsNearest f x z → y ≡ z
-nearest_unique f x y z y_fits z_fits y_pos z_pos Y Z =
-    le_antisymm_positive f y z y_fits z_fits y_pos z_pos (nearest_le f x z y z_fits y_fits z_pos y_pos Z Y) (nearest_le f x y z y_fits z_fits y_pos z_pos Y Z)
+pub nearest_unique : (f : Format) (x y z : Float) → T (fits f y) → T (fits f z) → T (finite y) → T (positive z) → IsNearest f x y → IsNearest f x z → y ≡ z
+nearest_unique f x y z y_fits z_fits y_finite z_pos Y Z =
+    let z_finite = positive-finite z z_pos in
+    let h = not_above f x y z y_fits z_fits y_finite z_finite Y Z in
+    let k = not_above f x z y z_fits y_fits z_finite y_finite Z Y in
+    le_antisymm_positive f y z y_fits z_fits (between z y z z_pos z_pos h k) z_pos k h

@@ -1,36 +1,19 @@
 -- The bit pattern of an f32's root by whole numbers alone: from that of the f32 as an f64, as `sqrtf_by_digits` works it out (`sqrt_pattern`), and from a normal f32's own, as `is_root` checks it
 -- (`sqrt_checked`). Assumes nothing.
-use Rattle.std.proofs.Common.{◌≡◌, ℕ, zero, suc, ◌+◌, ◌-◌, ◌*◌, ◌/◌, ◌%◌, ◌^◌, ◌<◌, ◌≤◌, false, T, sym, refl, ap, ◌∙◌, subst, le_trans, le_of_eq, lt_of_lt_of_le, lt_of_le_of_lt, mul_assoc, mul_comm, mul-le-mul, mul-le-mul_left, mul-pos, one-mul, pow-suc, lt_of_not-le, mul_right_comm, not-le_of_lt, mul-div_cancel, mul_left_comm, arith, lit<, lit≤, pow_pos, pow_mono, pow-add, shl_lt}
-use native.Mathlib.Nat.{mul-mul-mul_comm, mul-mod_left, eq_of_mul-eq-mul_right}
+use Rattle.std.proofs.Common.{mul-le-mul_right, ◌≡◌, ℕ, zero, suc, ◌+◌, ◌-◌, ◌*◌, ◌/◌, ◌%◌, ◌^◌, ◌<◌, ◌≤◌, false, T, sym, refl, ap, ◌∙◌, subst, le_trans, le_of_eq, lt_of_lt_of_le, lt_of_le_of_lt, mul_assoc, mul-le-mul, mul-le-mul_left, mul-pos, one-mul, pow-suc, lt_of_not-le, not-le_of_lt, mul-div_cancel, mul_left_comm, arith, lit<, lit≤, pow_pos, pow_mono, pow-add, shl_lt}
+use native.Mathlib.Nat.{mul-mul-mul_comm, mul-mod_left}
 use lib.Ieee.{Float, binary32, binary64, fits, to_bits, units, le, of_bits}
 use lib.Ieee.Exact.{HasValue, units_val}
 use lib.Ieee.Positive.{num, den, den_pos, positive, values_of_le, positive_of_value}
 use Rattle.floats.specs.Sqrt.{whole_root, sqrt}
 use Rattle.floats.proofs.Laws.Sqrt.WholeRoot.{next_square, lt_of_squares, le_of_squares, whole_root_is}
-use Rattle.floats.proofs.Laws.Sqrt.Values.{NormalIn, normal_in, to_bits_normal, value_of}
+use Rattle.floats.proofs.Laws.Sqrt.Values.{Full, in_full, rescaled, to_bits_normal, value_of}
 use Rattle.floats.proofs.Laws.Sqrt.Digits.{root_of_shifted}
 use Rattle.floats.proofs.Laws.Sqrt.Special.{sqrt_positive}
 
--- ---- one fraction at two scales: num / den is m * 2 ^ (a + k) over 2 ^ l, and m * 2 ^ i over 2 ^ s
-rescaled : (num den m a k l s i : ℕ) → num * 2 ^ l ≡ m * 2 ^ a * 2 ^ k * den → a + k + s ≡ i + l → num * 2 ^ s ≡ m * 2 ^ i * den
-rescaled num den m a k l s i h e =
-    let powers : 2 ^ a * 2 ^ k * 2 ^ s ≡ 2 ^ i * 2 ^ l = simp pow-add at (ap (λ (x : ℕ). 2 ^ x) e) in
-    eq_of_mul-eq-mul_right (2 ^ l) (pow_pos l) (num * 2 ^ s) (m * 2 ^ i * den)
-    (mul_right_comm num (2 ^ s) (2 ^ l)
-    ∙ ap (λ (x : ℕ). x * 2 ^ s) h
-    ∙ before m (2 ^ a) (2 ^ k) den (2 ^ s)
-    ∙ ap (λ (x : ℕ). m * den * x) powers
-    ∙ after m den (2 ^ i) (2 ^ l))
-  where
-    before : (m a k den s : ℕ) → m * a * k * den * s ≡ m * den * (a * k * s)
-    before m a k den s = simp (mul_assoc, mul_comm, mul_left_comm)
-
-    after : (m den i l : ℕ) → m * den * (i * l) ≡ m * i * den * l
-    after m den i l = simp (mul_assoc, mul_comm, mul_left_comm)
-
--- the same at the square of 2 ^ s, with a square in m's factor
-rescaled_square : (num den m a k l s t d : ℕ) → num * 2 ^ l ≡ m * 2 ^ a * 2 ^ k * den → a + k + (s + s) ≡ t + (d + d) + l → num * (2 ^ s * 2 ^ s) ≡ m * 2 ^ t * (2 ^ d * 2 ^ d) * den
-rescaled_square num den m a k l s t d h e = simp mul_assoc (simp (pow-add, mul_assoc) at (rescaled num den m a k l (s + s) (t + (d + d)) h e))
+-- ---- one fraction at two scales: num / den is m * 2 ^ i over 2 ^ l, and m * 2 ^ t * (2 ^ d)² over (2 ^ s)²
+rescaled_square : (num den m i l s t d : ℕ) → num * 2 ^ l ≡ m * 2 ^ i * den → i + (s + s) ≡ t + (d + d) + l → num * (2 ^ s * 2 ^ s) ≡ m * 2 ^ t * (2 ^ d * 2 ^ d) * den
+rescaled_square num den m i l s t d h e = simp mul_assoc (simp (pow-add, mul_assoc) at (rescaled num den m i l (s + s) (t + (d + d)) h e))
 
 -- ---- the numbers that the code names, from the pattern b of x as an f64
 abbrev pub exponent : ℕ → ℕ
@@ -46,8 +29,8 @@ root b = whole_root (radicand b)
 abbrev pub field : ℕ → ℕ
 field b = (exponent b + 1) / 2 - 386
 
-module _ (b M K : ℕ) (full : 2 ^ 23 ≤ M) (few : M < 2 ^ 24) (bits : b ≡ K * 2 ^ 52 + M * 2 ^ 29) where
-  exponent_is : exponent b ≡ K + 1
+module _ (b M K : ℕ) (full : 2 ^ 23 ≤ M) (few : M < 2 ^ 24) (bits : b ≡ (K + 872) * 2 ^ 52 + M * 2 ^ 29) where
+  exponent_is : exponent b ≡ K + 873
   exponent_is = omega arith
 
   digits_are : b % 2 ^ 52 + 2 ^ 52 ≡ M * 2 ^ 29
@@ -86,40 +69,55 @@ module _ (b M K : ℕ) (full : 2 ^ 23 ≤ M) (few : M < 2 ^ 24) (bits : b ≡ K 
       below m h = omega arith
 
   -- the root in units of the smallest f32
-  in_units : (x : Float) → T (positive x) → 873 ≤ K → num x * 2 ^ 1074 ≡ M * 2 ^ 29 * 2 ^ K * den x → sqrt binary32 x ≡ units binary32 false ((root b + 1) / 2) (field b)
+  in_units : (x : Float) → T (positive x) → 0 < K → num x * 2 ^ 173 ≡ M * 2 ^ K * den x → sqrt binary32 x ≡ units binary32 false ((root b + 1) / 2) (field b)
   in_units x p deep equals =
       let d = (exponent b + 1) / 2 - 363 in
       let e = exponent_is in
       sqrt_positive binary32 x p
       ∙ root_of_shifted binary32 (num x) (den x) (radicand b) d (den_pos x)
-      (rescaled_square (num x) (den x) M 29 K 1074 173 (suc (25 - exponent b % 2)) d equals (places (exponent b) K e deep) ∙ ap (λ (n : ℕ). n * (2 ^ d * 2 ^ d) * den x) (sym radicand_is))
+      (rescaled_square (num x) (den x) M K 173 173 (suc (25 - exponent b % 2)) d equals (places (exponent b) K e deep) ∙ ap (λ (n : ℕ). n * (2 ^ d * 2 ^ d) * den x) (sym radicand_is))
       (omega arith) root_low (lt_of_lt_of_le root_high (lit≤ tt)) radicand_even
       ∙ ap (λ (k : ℕ). units binary32 false ((root b + 1) / 2) k) (omega arith)
     where
-      places : (e K : ℕ) → e ≡ K + 1 → 873 ≤ K → 29 + K + (173 + 173) ≡ suc (25 - e % 2) + ((e + 1) / 2 - 363 + ((e + 1) / 2 - 363)) + 1074
+      places : (e K : ℕ) → e ≡ K + 873 → 0 < K → K + (173 + 173) ≡ suc (25 - e % 2) + ((e + 1) / 2 - 363 + ((e + 1) / 2 - 363)) + 173
       places e K h l = omega arith
 
 -- ---- the root's pattern
 module _ (x : Float) (fit : T (fits binary32 x)) (p : T (positive x)) where
-  normal : NormalIn binary32 binary64 x
-  normal = normal_in binary32 binary64 x fit p (lit≤ tt) (lit≤ tt)
+  full : Full binary32 x
+  full = in_full binary32 x fit p
+
+  -- as an f64 it is normal
+  wide : to_bits binary64 x ≡ (full.place + 872) * 2 ^ 52 + full.digits * 2 ^ 29
+  wide =
+      let u = full in
+      let e : num x * 2 ^ 1074 ≡ u.digits * 2 ^ 29 * 2 ^ (u.place + 872) * den x =
+      rescaled (num x) (den x) u.digits u.place 173 1074 (29 + (u.place + 872)) u.equals (omega arith)
+      ∙ ap (λ (y : ℕ). y * den x) (ap (λ (y : ℕ). u.digits * y) (pow-add 2 29 (u.place + 872)) ∙ sym (mul_assoc u.digits (2 ^ 29) (2 ^ (u.place + 872)))) in
+      to_bits_normal binary64 x (u.digits * 2 ^ 29) (u.place + 872) (mul-le-mul_right (2 ^ 29) u.full) (shl_lt 24 29 u.few)
+      (value_of x (u.digits * 2 ^ 29 * 2 ^ (u.place + 872)) (2 ^ 1074) p e)
+
+  place_below : full.place < 278
+  place_below =
+      let u = full in
+      lt_of_not-le (λ (g : 278 ≤ u.place). not-le_of_lt u.inside (mul-le-mul u.full (pow_mono g)))
 
   pub field_in : (386 ≤ (exponent (to_bits binary64 x) + 1) / 2) × (field (to_bits binary64 x) < 190)
-  field_in = let u = normal in omega (arith, exponent_is (to_bits binary64 x) u.digits u.place u.full u.few u.bits)
+  field_in = let u = full in omega (arith, exponent_is (to_bits binary64 x) u.digits u.place u.full u.few wide, u.placed, place_below)
 
   pub root_in : (2 ^ 24 ≤ root (to_bits binary64 x)) × (root (to_bits binary64 x) < 2 ^ 25 - 1)
   root_in =
-      let u = normal in
-      (root_low (to_bits binary64 x) u.digits u.place u.full u.few u.bits, root_high (to_bits binary64 x) u.digits u.place u.full u.few u.bits)
+      let u = full in
+      (root_low (to_bits binary64 x) u.digits u.place u.full u.few wide, root_high (to_bits binary64 x) u.digits u.place u.full u.few wide)
 
   pub sqrt_pattern : to_bits binary32 (sqrt binary32 x) ≡ field (to_bits binary64 x) * 2 ^ 23 + (root (to_bits binary64 x) + 1) / 2
   sqrt_pattern =
-      let u = normal in
+      let u = full in
       let b = to_bits binary64 x in
       let q = (root b + 1) / 2 in
       let k = field b in
       let r = root_in in
-      let is = in_units b u.digits u.place u.full u.few u.bits x p (omega arith) u.equals in
+      let is = in_units b u.digits u.place u.full u.few wide x p u.placed u.equals in
       let small : q < 2 ^ 24 = omega arith in
       let inside : q * 2 ^ k < 2 ^ 277 = lt_of_lt_of_le (shl_lt 24 k small) (pow_mono {j = 277} (omega (arith, field_in))) in
       to_bits_normal binary32 (sqrt binary32 x) q k (omega arith) small (subst (λ (y : Float). HasValue y false (q * 2 ^ k) (2 ^ 149)) (sym is) (units_val binary32 false q k inside))
@@ -160,29 +158,29 @@ pub smallest_positive : T (positive (of_bits binary32 8388608))
 smallest_positive = positive_of_value (of_bits binary32 8388608) 1 (2 ^ 126) smallest_value (lit< tt)
 
 module _ (x : Float) (fit : T (fits binary32 x)) (p : T (positive x)) (reached : T (le (of_bits binary32 8388608) x)) where
-  normal_place : 896 ≤ (normal x fit p).place
+  normal_place : 24 ≤ (full x fit p).place
   normal_place =
-      let u = normal x fit p in
+      let u = full x fit p in
       let K = u.place in
-      let units : u.digits * 2 ^ 29 * 2 ^ K * 2 ^ 126 < 2 ^ (24 + 29 + K + 126) = shl_lt (24 + 29 + K) 126 (shl_lt (24 + 29) K (shl_lt 24 29 u.few)) in
-      let least : 1 * 2 ^ 1074 ≤ u.digits * 2 ^ 29 * 2 ^ K * 2 ^ 126 =
-      values_of_le (of_bits binary32 8388608) x 1 (2 ^ 126) (u.digits * 2 ^ 29 * 2 ^ K) (2 ^ 1074)
-      smallest_positive p smallest_value (value_of x (u.digits * 2 ^ 29 * 2 ^ K) (2 ^ 1074) p u.equals) reached in
-      let more : 1074 < 24 + 29 + K + 126 = lt_of_not-le (λ (g : 24 + 29 + K + 126 ≤ 1074). not-le_of_lt units (le_trans (pow_mono g) (subst (λ (y : ℕ). y ≤ u.digits * 2 ^ 29 * 2 ^ K * 2 ^ 126) (one-mul (2 ^ 1074)) least))) in
+      let units : u.digits * 2 ^ K * 2 ^ 126 < 2 ^ (24 + K + 126) = shl_lt (24 + K) 126 (shl_lt 24 K u.few) in
+      let least : 1 * 2 ^ 173 ≤ u.digits * 2 ^ K * 2 ^ 126 =
+      values_of_le (of_bits binary32 8388608) x 1 (2 ^ 126) (u.digits * 2 ^ K) (2 ^ 173)
+      smallest_positive p smallest_value (value_of x (u.digits * 2 ^ K) (2 ^ 173) p u.equals) reached in
+      let more : 173 < 24 + K + 126 = lt_of_not-le (λ (g : 24 + K + 126 ≤ 173). not-le_of_lt units (le_trans (pow_mono g) (subst (λ (y : ℕ). y ≤ u.digits * 2 ^ K * 2 ^ 126) (one-mul (2 ^ 173)) least))) in
       omega arith
 
-  narrow_bits : to_bits binary32 x ≡ ((normal x fit p).place - 896) * 2 ^ 23 + (normal x fit p).digits
+  narrow_bits : to_bits binary32 x ≡ ((full x fit p).place - 24) * 2 ^ 23 + (full x fit p).digits
   narrow_bits =
-      let u = normal x fit p in
-      let k = u.place - 896 in
+      let u = full x fit p in
+      let k = u.place - 24 in
       let deep = normal_place in
-      to_bits_normal binary32 x u.digits k u.full u.few (value_of x (u.digits * 2 ^ k) (2 ^ 149) p (rescaled (num x) (den x) u.digits 29 u.place 1074 149 k u.equals (omega arith)))
+      to_bits_normal binary32 x u.digits k u.full u.few (value_of x (u.digits * 2 ^ k) (2 ^ 149) p (rescaled (num x) (den x) u.digits u.place 173 149 k u.equals (omega arith)))
 
   pub bits_below : to_bits binary32 x < 255 * 2 ^ 23
-  bits_below = let u = normal x fit p in omega (arith, narrow_bits, normal_place)
+  bits_below = let u = full x fit p in omega (arith, narrow_bits, normal_place, u.few, place_below x fit p)
 
   wide_bits : to_bits binary64 x ≡ (to_bits binary32 x / 2 ^ 23 + 895) * 2 ^ 52 + (to_bits binary32 x % 2 ^ 23 + 2 ^ 23) * 2 ^ 29
-  wide_bits = let u = normal x fit p in omega (arith, narrow_bits, normal_place)
+  wide_bits = let u = full x fit p in omega (arith, narrow_bits, normal_place, wide x fit p, u.full, u.few)
 
   -- the fields of x as an f64, by those of x as an f32
   field_is : field (to_bits binary64 x) ≡ (to_bits binary32 x / 2 ^ 23 + 125) / 2
@@ -195,7 +193,7 @@ module _ (x : Float) (fit : T (fits binary32 x)) (p : T (positive x)) (reached :
       let M = b % 2 ^ 23 + 2 ^ 23 in
       let t = 24 - b / 2 ^ 23 % 2 in
       let w = wide_bits in
-      radicand_is B M (b / 2 ^ 23 + 895) (omega arith) (omega arith) wide_bits
+      radicand_is B M (b / 2 ^ 23 + 23) (omega arith) (omega arith) (omega (arith, wide_bits))
       ∙ ap (λ (y : ℕ). M * 2 ^ y) (two_more (exponent B) (b / 2 ^ 23) (omega arith))
       ∙ ap (λ (y : ℕ). M * y) (pow-add 2 2 t)
       ∙ mul_left_comm M 4 (2 ^ t)

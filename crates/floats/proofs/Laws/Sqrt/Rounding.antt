@@ -1,25 +1,12 @@
 -- `round` by the leading digits of its fraction: with one digit more than the format keeps, that digit alone decides, except at a tie.
 -- So two fractions that agree in their whole part at a fine enough scale, and of which neither is that whole part, round alike. Assumes nothing.
-use Rattle.std.proofs.Common.{◌≡◌, ℕ, suc, ◌+◌, ◌-◌, ◌*◌, ◌/◌, ◌%◌, ◌^◌, ◌<◌, ◌≤◌, Bool, not, T, sym, refl, ap, ◌∙◌, subst, ap₂, lt_of_le_of_lt, le_of_lt, lt_irrefl, mod-lt, mul_assoc, mul_comm, add-mul, lt_of_mul-lt-mul_right, mul-pos, one-mul, div-add-mod', div-mul-le_self, mul-div_cancel, mul_left_comm, arith, eqb→eq, leb→le, pow_pos, pow-add}
-use mathlib.Core.Path.{subst⁻¹}
+use Rattle.std.proofs.Common.{le_of_eq, ◌≡◌, ℕ, suc, ◌+◌, ◌-◌, ◌*◌, ◌/◌, ◌%◌, ◌^◌, ◌<◌, ◌≤◌, Bool, T, sym, ap, ◌∙◌, subst, ap₂, lt_of_le_of_lt, le_of_lt, lt_irrefl, mod-lt, mul_assoc, mul_comm, add-mul, lt_of_mul-lt-mul_right, mul-pos, one-mul, div-add-mod', div-mul-le_self, mul-div_cancel, mul_left_comm, arith, pow_pos, pow-add}
 use Prim.Native.Nat.{compare, Ordering}
 use native.Mathlib.Nat.{lt-div-mul-add, div-div-eq-div-mul, mul-div-mul_right, div-eq_of_lt-le, pow-succ'}
-use lib.Dec.{is_le, compare_is_eq, nleb→lt}
-use lib.Arith.{lt_of_le-ne}
 use lib.Ieee.{Format, prec, low, size, nearest, units, round}
-use lib.Ieee.Fits.{eq→eqb, round_is, two}
+use lib.Ieee.Fits.{round_is, two}
 use lib.Ieee.Nearest.{closest}
-
--- ---- the order that `compare` found
-abbrev Ordered : Ordering → ℕ → ℕ → Type 0
-Ordered Ordering.lt x y = x < y
-Ordered Ordering.eq x y = x ≡ y
-Ordered Ordering.gt x y = y < x
-
-ordered : (x y : ℕ) (o : Ordering) → compare x y ≡ o → Ordered o x y
-ordered x y Ordering.lt e = lt_of_le-ne (leb→le x y (subst⁻¹ (λ (o : Ordering). T (is_le o)) e tt)) (λ q. subst (λ (o : Ordering). T (compare_is_eq o)) e (eq→eqb q))
-ordered x y Ordering.eq e = eqb→eq x y (subst⁻¹ (λ (o : Ordering). T (compare_is_eq o)) e tt)
-ordered x y Ordering.gt e = nleb→lt x y (subst⁻¹ (λ (o : Ordering). T (not (is_le o))) e tt)
+use Rattle.floats.proofs.Laws.Nearest.{compared}
 
 -- ---- h is the whole part of 2 a / b; it is odd and nothing is left over exactly at a tie
 same_whole : (h g b n : ℕ) → h * b ≤ n → n < (h + 1) * b → g * b ≤ n → n < (g + 1) * b → h ≡ g
@@ -31,25 +18,31 @@ same_whole h g b n h_le h_lt g_le g_lt =
 doubles : (w b : ℕ) → (2 * w * b ≡ 2 * (w * b)) × ((2 * w + 1) * b ≡ 2 * (w * b) + b) × ((2 * w + 1 + 1) * b ≡ 2 * (w * b) + b + b)
 doubles w b = (mul_assoc 2 w b, simp (add-mul, one-mul, mul_assoc), simp (add-mul, one-mul, mul_assoc))
 
-nearest_by_halves : (w t b a h : ℕ) (o : Ordering) → Ordered o (t * 2) b → t < b → w * b + t ≡ a → h * b ≤ a * 2 → a * 2 < (h + 1) * b → (h % 2 ≡ 1 → h * b ≡ a * 2 → ⊥)
-    → nearest w o ≡ (h + 1) / 2
-nearest_by_halves w t b a h Ordering.lt c T parts at_least_lem below no_tie =
-    let d = doubles w b in
-    let e : h ≡ 2 * w = same_whole h (2 * w) b (a * 2) at_least_lem below (omega arith) (omega arith) in
-    omega arith
-nearest_by_halves w t b a h Ordering.eq c T parts at_least_lem below no_tie =
-    let d = doubles w b in
-    let e : h ≡ 2 * w + 1 = same_whole h (2 * w + 1) b (a * 2) at_least_lem below (omega arith) (omega arith) in
-    let whole : (2 * w + 1) * b ≡ a * 2 = omega arith in
-    absurd (no_tie (omega arith) (ap (λ (x : ℕ). x * b) e ∙ whole))
-nearest_by_halves w t b a h Ordering.gt c T parts at_least_lem below no_tie =
-    let d = doubles w b in
-    let e : h ≡ 2 * w + 1 = same_whole h (2 * w + 1) b (a * 2) at_least_lem below (omega arith) (omega arith) in
-    omega arith
+nearest_by_halves : (w t b a h : ℕ) → t < b → w * b + t ≡ a → h * b ≤ a * 2 → a * 2 < (h + 1) * b → (h % 2 ≡ 1 → h * b ≡ a * 2 → ⊥) → nearest w (compare (t * 2) b) ≡ (h + 1) / 2
+nearest_by_halves w t b a h T parts at_least below no_tie = compared (λ (o : Ordering). nearest w o ≡ (h + 1) / 2) (t * 2) b down tie up
+  where
+    down : t * 2 < b → w ≡ (h + 1) / 2
+    down l =
+        let d = doubles w b in
+        let e : h ≡ 2 * w = same_whole h (2 * w) b (a * 2) at_least below (omega arith) (omega arith) in
+        omega arith
+
+    odd : b ≤ t * 2 → h ≡ 2 * w + 1
+    odd l = let d = doubles w b in same_whole h (2 * w + 1) b (a * 2) at_least below (omega arith) (omega arith)
+
+    tie : t * 2 ≡ b → w + w % 2 ≡ (h + 1) / 2
+    tie q =
+        let d = doubles w b in
+        let e = odd (le_of_eq (sym q)) in
+        let whole : (2 * w + 1) * b ≡ a * 2 = omega arith in
+        absurd (no_tie (omega arith) (ap (λ (x : ℕ). x * b) e ∙ whole))
+
+    up : b < t * 2 → suc w ≡ (h + 1) / 2
+    up g = let e = odd (le_of_lt g) in omega arith
 
 closest_by_halves : (a b h : ℕ) → 0 < b → a * 2 / b ≡ h → (h % 2 ≡ 1 → h * b ≡ a * 2 → ⊥) → closest a b ≡ (h + 1) / 2
 closest_by_halves a b h B is no_tie =
-    nearest_by_halves (a / b) (a % b) b a h (compare (a % b * 2) b) (ordered (a % b * 2) b (compare (a % b * 2) b) refl) (mod-lt a B) (div-add-mod' a b)
+    nearest_by_halves (a / b) (a % b) b a h (mod-lt a B) (div-add-mod' a b)
     (subst (λ (x : ℕ). x * b ≤ a * 2) is (div-mul-le_self (a * 2) b))
     (subst (λ (x : ℕ). a * 2 < (x + 1) * b) is (rw (add-mul, one-mul) (lt-div-mul-add B)))
     no_tie

@@ -1,25 +1,26 @@
--- The root of a square, both rounded, is the number squared, where the square neither overflows nor falls below the normal range (`root_of_square`).
--- At binary32 that holds from 2 ^ -60 to 2 ^ 61 (`sqrt_square`). The square is off by less than the way to the square of the midpoint with the next value. Assumes nothing.
-use Rattle.std.proofs.Common.{◌≡◌, ℕ, suc, ◌+◌, ◌-◌, ◌*◌, ◌^◌, ◌<◌, ◌≤◌, Bool, true, false, cond, T, pos, sym, refl, ap, ◌∙◌, ⊎_elim, le_trans, le_of_eq, le_refl, le_of_suc-le-suc, lt_of_le_of_lt, le_of_lt, mul-le-mul_right, zero-lt-suc, mul_assoc, lt-suc_self, mul-le-mul, lt_of_mul-lt-mul_right, eq-or-lt_of_le, mul-le-mul_left, mul-lt-mul_of_pos_right, mul-pos, one-mul, pow-suc, lt_of_not-le, mul-one, mul_right_comm, not-le_of_lt, le_of_mul-le-mul_right, add-one, arith, lit≤, pow_pos, pow-add}
-use native.Mathlib.Nat.{mul-mul-mul_comm, pow-zero}
+-- The root of a square, both rounded, is the number squared, where the square neither overflows nor falls below the normal range (`root_of_square`), as from 2 ^ -k to 2 ^ k for a
+-- k below half of the format's largest exponent (`sqrt_square`). The square is off by less than the way to the square of the midpoint with the next value. Assumes nothing.
+use Rattle.std.proofs.Common.{zero, negsuc, pow_mono, ◌≡◌, ℕ, suc, ◌+◌, ◌-◌, ◌*◌, ◌^◌, ◌<◌, ◌≤◌, Bool, true, false, cond, T, pos, sym, refl, ap, ◌∙◌, ⊎_elim, le_trans, le_of_eq, le_refl, le_of_suc-le-suc, lt_of_le_of_lt, le_of_lt, mul-le-mul_right, zero-lt-suc, mul_assoc, lt-suc_self, mul-le-mul, lt_of_mul-lt-mul_right, eq-or-lt_of_le, mul-le-mul_left, mul-lt-mul_of_pos_right, mul-pos, one-mul, lt_of_not-le, mul-one, mul_right_comm, not-le_of_lt, le_of_mul-le-mul_right, add-one, arith, pow_pos, pow-add}
+use native.Mathlib.Nat.{mul-mul-mul_comm}
 use lib.Pow.{pow-lt}
-use lib.Ieee.{Float, fin, Format, binary32, binary64, prec, emax, low, hid, round, neg, mul, fits, le, lt, of_bits}
+use lib.Ieee.{Float, fin, Format, binary32, binary64, prec, emax, low, up, down, hid, round, neg, mul, fits, le, lt, inf, nan}
 use lib.Ieee.Exact.{HasValue}
 use lib.Ieee.Fits.{two, two-le_pos, round-fits}
-use lib.Ieee.Positive.{num, den, den_pos, positive, positive-finite, own_value, between, value→cross, le→cross, mul_at}
+use lib.Ieee.Positive.{num, den, den_pos, positive, positive-finite, own_value, between, value→cross, le→cross, values_of_le, positive_of_value, mul_at}
 use lib.Ieee.Scale.{finite}
 use Rattle.floats.specs.Compare.{abs, is_negative}
 use Rattle.floats.specs.Sqrt.{sqrt}
+use Rattle.floats.specs.Root.{sum, IsNearest}
 use Rattle.floats.proofs.Laws.Order
 use Rattle.floats.proofs.Laws.Round.{mul_power, round_held, round_finite, fractions_of_lt}
 use Rattle.floats.proofs.Laws.Near.{Near, round_near, round_positive}
-use Rattle.floats.proofs.Laws.Product.{mul_neg, mul_neg_right}
-use Rattle.floats.proofs.Laws.Sqrt.Values.{normal_in, value_of, le_antisymm_positive}
+use Rattle.floats.proofs.Laws.Product.{neg_square}
+use Rattle.floats.proofs.Laws.Sqrt.WholeRoot.{square_is}
+use Rattle.floats.proofs.Laws.Sqrt.Values.{Full, in_full, value_of, le_antisymm_positive}
 use Rattle.floats.proofs.Laws.Sqrt.Leading.{next_value}
 use Rattle.floats.proofs.Laws.Sqrt.Rounding.{twice_pow}
 use Rattle.floats.proofs.Laws.Sqrt.Special.{sqrt_fits}
-use Rattle.floats.proofs.Laws.Sqrt.Midpoint.{sum, IsNearest}
-use Rattle.floats.proofs.Laws.Sqrt.Nearest.{nearest, root_positive}
+use Rattle.floats.proofs.Laws.Sqrt.Nearest.{total, nearest, root_positive}
 
 -- ---- a square and its neighbours, in steps of its root
 
@@ -102,43 +103,29 @@ scaled_exact x d b n e s h k = omega (arith, mul-le-mul_right e (mul-le-mul k k)
 
 -- ---- from fractions to values
 
-square_is : (a : ℕ) → a ^ 2 ≡ a * a
-square_is a = pow-suc a 1 ∙ ap (λ (x : ℕ). x * a) (pow-suc a 0 ∙ ap (λ (x : ℕ). x * a) (pow-zero a) ∙ one-mul a)
-
-positive_sum : (y z : Float) → T (positive y) → sum y z ≡ num z * den y + num y * den z
+positive_sum : (y z : Float) → T (positive y) → T (positive z) → sum y z ≡ num z * den y + num y * den z
 unfolding is_negative
-positive_sum (fin false m e) z p = refl
+positive_sum (fin false m e) (fin false n d) p q = total (n * up d * down e) (m * up e * down d) (down d) (down e)
+positive_sum nan z p q = elim p [ ]
+positive_sum (inf _) z p q = elim p [ ]
+positive_sum (fin true m e) z p q = elim p [ ]
+positive_sum (fin false m e) nan p q = elim q [ ]
+positive_sum (fin false m e) (inf _) p q = elim q [ ]
+positive_sum (fin false m e) (fin true n d) p q = elim q [ ]
 
--- a positive value of f is M * 2 ^ k units of g's smallest value, with all of f's digits in M
-module _ (f g : Format) (wider : prec f ≤ prec g) (deeper : low f + prec g ≤ suc (low g)) where
-  record Steps (v : Float) : Type 0 where
-    digits : ℕ
-    place : ℕ
-    full : hid f ≤ digits
-    few : digits < 2 ^ prec f
-    equals : num v * 2 ^ low g ≡ digits * 2 ^ place * den v
-    value : HasValue v false (digits * 2 ^ place) (2 ^ low g)
+-- a positive value of f is M * 2 ^ k units of 2 ^ -(low + prec), with all of f's digits in M
+module _ (f : Format) where
+  abbrev unit : ℕ
+  unit = 2 ^ (low f + prec f)
 
-  steps : (v : Float) → T (fits f v) → T (positive v) → Steps v
-  steps v fit p =
-      let N = normal_in f g v fit p wider deeper in
-      let e = N.equals ∙ ap (λ (y : ℕ). y * den v) (mul_assoc N.digits (2 ^ (prec g - prec f)) (2 ^ N.place) ∙ ap (λ (y : ℕ). N.digits * y) (sym (pow-add 2 (prec g - prec f) N.place))) in
-      record {
-        digits = N.digits;
-        place = prec g - prec f + N.place;
-        full = N.full;
-        few = N.few;
-        equals = e;
-        value = value_of v (N.digits * 2 ^ (prec g - prec f + N.place)) (2 ^ low g) p e;
-      }
-
-  lt_in_steps : (u v : Float) (A : Steps u) (B : Steps v) → T (lt u v) → A.digits * 2 ^ A.place < B.digits * 2 ^ B.place
-  lt_in_steps u v A B h =
-      let l = fractions_of_lt u v false (A.digits * 2 ^ A.place) (2 ^ low g) false (B.digits * 2 ^ B.place) (2 ^ low g) (pow_pos (low g)) (pow_pos (low g)) A.value B.value h in
-      lt_of_mul-lt-mul_right (2 ^ low g) (omega arith)
+  lt_in_steps : (u v : Float) (A : Full f u) (B : Full f v) → T (positive u) → T (positive v) → T (lt u v) → A.digits * 2 ^ A.place < B.digits * 2 ^ B.place
+  lt_in_steps u v A B p q h =
+      let l = fractions_of_lt u v false (A.digits * 2 ^ A.place) unit false (B.digits * 2 ^ B.place) unit (pow_pos (low f + prec f)) (pow_pos (low f + prec f))
+      (value_of u (A.digits * 2 ^ A.place) unit p A.equals) (value_of v (B.digits * 2 ^ B.place) unit q B.equals) h in
+      lt_of_mul-lt-mul_right unit (omega arith)
 
   -- x is near m * m, and exactly that where m is a power of two; r is another value
-  module _ (m x r : Float) (A : Steps m) (B : Steps r) (near : Near (2 ^ prec f) (num x * (den m * den m)) (num m * num m * den x))
+  module _ (m x r : Float) (A : Full f m) (B : Full f r) (p : T (positive m)) (q : T (positive r)) (near : Near (2 ^ prec f) (num x * (den m * den m)) (num m * num m * den x))
       (exact : hid f ≡ A.digits → num x * (den m * den m) ≡ num m * num m * den x) where
     abbrev both : ℕ
     both = num r * den m + num m * den r
@@ -152,38 +139,38 @@ module _ (f g : Format) (wider : prec f ≤ prec g) (deeper : low f + prec g ≤
     abbrev other : ℕ
     other = B.digits * 2 ^ B.place
 
-    own : num m * den r * 2 ^ low g ≡ A.digits * step
-    own = own_steps A.digits (2 ^ A.place) (den m) (num m) (den r) (num r) other (2 ^ low g) A.equals B.equals
+    own : num m * den r * unit ≡ A.digits * step
+    own = own_steps A.digits (2 ^ A.place) (den m) (num m) (den r) (num r) other (unit) A.equals B.equals
 
     scaled : Near (2 ^ prec f) square (num m * den r * (num m * den r) * den x)
     scaled = scaled_near (2 ^ prec f) (num x) (den m) (den r) (num m) (den x) near
 
     far_above : T (lt m r) → 4 * square ≤ both * both * den x
     far_above h =
-        let next = next_value (prec f) A.digits A.place B.digits B.place (two f) A.full B.few (lt_in_steps m r A B h) in
-        upper (2 ^ prec f) A.digits step (2 ^ low g) (num m * den r) both square (den x) (pow_pos (prec f)) (pow_pos (low g)) own (le_of_lt A.few)
+        let next = next_value (prec f) A.digits A.place B.digits B.place (two f) A.full B.few (lt_in_steps m r A B p q h) in
+        upper (2 ^ prec f) A.digits step (unit) (num m * den r) both square (den x) (pow_pos (prec f)) (pow_pos (low f + prec f)) own (le_of_lt A.few)
         scaled.0
-        (sum_above A.digits (2 ^ A.place) (den m) (num m) (den r) (num r) other (2 ^ low g) A.equals B.equals next)
+        (sum_above A.digits (2 ^ A.place) (den m) (num m) (den r) (num r) other (unit) A.equals B.equals next)
 
     power_below : hid f ≡ A.digits → other < A.digits * 2 ^ A.place → both * both * den x ≤ 4 * square
-    power_below e l = scaled_exact (num x) (den m) (den r) (num m) (den x) both (exact e) (sum_upto A.digits (2 ^ A.place) (den m) (num m) (den r) (num r) other (2 ^ low g) A.equals B.equals (pow_pos (low g)) (le_of_lt l))
+    power_below e l = scaled_exact (num x) (den m) (den r) (num m) (den x) both (exact e) (sum_upto A.digits (2 ^ A.place) (den m) (num m) (den r) (num r) other (unit) A.equals B.equals (pow_pos (low f + prec f)) (le_of_lt l))
 
     step_below : (c : ℕ) → A.digits ≡ suc c → hid f ≤ c → other < A.digits * 2 ^ A.place → both * both * den x ≤ 4 * square
     step_below c e full l =
         let upto : other ≤ c * 2 ^ A.place = le_of_suc-le-suc (lt_of_not-le (λ (h : c * 2 ^ A.place < other). not-le_of_lt l (le_trans (le_of_eq (ap (λ (y : ℕ). y * 2 ^ A.place) (e ∙ sym (add-one c)))) (next_value (prec f) c A.place B.digits B.place (two f) full B.few h)))) in
-        lower (2 ^ prec f) A.digits step (2 ^ low g) (num m * den r) both square (den x) (pow_pos (prec f)) (pow_pos (low g)) own c e A.few (omega (arith, twice_pow (prec f) (two f)))
+        lower (2 ^ prec f) A.digits step (unit) (num m * den r) both square (den x) (pow_pos (prec f)) (pow_pos (low f + prec f)) own c e A.few (omega (arith, twice_pow (prec f) (two f)))
         scaled.1
-        (sum_below A.digits (2 ^ A.place) (den m) (num m) (den r) (num r) other (2 ^ low g) A.equals B.equals c e upto)
+        (sum_below A.digits (2 ^ A.place) (den m) (num m) (den r) (num r) other (unit) A.equals B.equals c e upto)
 
     far_below : T (lt r m) → both * both * den x ≤ 4 * square
     far_below h =
-        let l = lt_in_steps r m B A h in
+        let l = lt_in_steps r m B A q p h in
         ⊎_elim (λ e. power_below e l) (λ k. step_below (A.digits - 1) (omega arith) (omega arith) l) (eq-or-lt_of_le A.full)
 
     -- so m is r, where r is the nearest value to the root of x
-    module _ (m_fits : T (fits f m)) (r_fits : T (fits f r)) (p : T (positive m)) (q : T (positive r)) (N : IsNearest f x r) where
+    module _ (m_fits : T (fits f m)) (r_fits : T (fits f r)) (N : IsNearest f x r) where
       sum_squared : sum m r ^ 2 * den x ≡ both * both * den x
-      sum_squared = ap (λ (y : ℕ). y * den x) (ap (λ (y : ℕ). y ^ 2) (positive_sum m r p) ∙ square_is both)
+      sum_squared = ap (λ (y : ℕ). y * den x) (ap (λ (y : ℕ). y ^ 2) (positive_sum m r p q) ∙ square_is both)
 
       four_squares : 4 * num x * (den m * den r) ^ 2 ≡ 4 * square
       four_squares = ap (λ (y : ℕ). 4 * num x * y) (square_is (den m * den r)) ∙ regroup (num x) (den m * den r)
@@ -259,28 +246,33 @@ module _ (f : Format) (m : Float) (p : T (positive m)) (normal : hid f * (den m 
       })
       (le_refl 1) den_square (same_square (2 ^ k) (2 ^ l) (num m) (den m) (den_pos m) e ∙ ap (λ (y : ℕ). y * (den m * den m)) (sym (one-mul u))))
 
-  pub root_of_square : (g : Format) → prec f ≤ prec g → low f + prec g ≤ suc (low g) → T (fits f m) → sqrt f (mul f m m) ≡ m
-  root_of_square g wider deeper fit =
+  pub root_of_square : T (fits f m) → sqrt f (mul f m m) ≡ m
+  root_of_square fit =
       let x_Fits = round-fits f false (num m * num m) (den m * den m) in
       let r_fits = sqrt_fits f x x_Fits in
       let q = root_positive f x x_Fits square_positive in
-      let A = steps f g wider deeper m fit p in
-      let B = steps f g wider deeper (sqrt f x) r_fits q in
+      let A = in_full f m fit p in
+      let B = in_full f (sqrt f x) r_fits q in
       ap (sqrt f) (mul_at f m m (num m) (den m) (num m) (den m) p p (den_pos m) (den_pos m) (own_value m p) (own_value m p))
-      ∙ same f g wider deeper m x (sqrt f x) A B square_near
-      (λ e. square_exact (prec f - 1 + A.place) (low g) (A.equals ∙ ap (λ (y : ℕ). y * den m) (ap (λ (y : ℕ). y * 2 ^ A.place) (sym e) ∙ sym (pow-add 2 (prec f - 1) A.place))))
-      fit r_fits p q (nearest f x x_Fits square_positive)
+      ∙ same f m x (sqrt f x) A B p q square_near
+      (λ e. square_exact (prec f - 1 + A.place) (low f + prec f) (A.equals ∙ ap (λ (y : ℕ). y * den m) (ap (λ (y : ℕ). y * 2 ^ A.place) (sym e) ∙ sym (pow-add 2 (prec f - 1) A.place))))
+      fit r_fits (nearest f x x_Fits square_positive)
 
--- ---- at binary32, from 2 ^ -60 to 2 ^ 60, and twice that
+-- ---- from 2 ^ -k to 2 ^ k, where 2 ^ (2 * k) is no more than the half of what the format holds
 
-abbrev pub lowest : Float
-lowest = of_bits binary32 0x2180_0000
+abbrev pub lowest : ℕ → Float
+lowest zero = fin false 1 (pos 0)
+lowest (suc k) = fin false 1 (negsuc k)
 
-abbrev pub highest : Float
-highest = of_bits binary32 0x5D80_0000
+abbrev pub highest : ℕ → Float
+highest k = fin false 1 (pos k)
 
-abbrev pub twice_highest : Float
-twice_highest = of_bits binary32 0x5E00_0000
+pub lowest_value : (k : ℕ) → HasValue (lowest k) false 1 (2 ^ k)
+lowest_value zero = (refl, refl)
+lowest_value (suc k) = (refl, refl)
+
+pub highest_value : (k : ℕ) → HasValue (highest k) false (2 ^ k) 1
+highest_value k = (refl, ap (λ (x : ℕ). x * 1) (one-mul (2 ^ k)))
 
 -- n / d is at least 1 / k, and at most k
 normal_square : (t k w n d : ℕ) → d ≤ n * k → t * (k * k) ≤ w → t * (d * d) ≤ n * n * w
@@ -292,26 +284,47 @@ normal_square t k w n d h j = le_trans (mul-le-mul_left t (mul-le-mul h h)) (le_
 small_square : (k e n d : ℕ) → n ≤ k * d → k * k ≤ e → n * n ≤ e * (d * d)
 small_square k e n d h j = le_trans (mul-le-mul h h) (le_trans (le_of_eq (mul-mul-mul_comm k d k d)) (mul-le-mul_right (d * d) j))
 
-pub positive_in_range : (m : Float) → T (le lowest m) → T (le m twice_highest) → T (positive m)
-unfolding of_bits
-positive_in_range m h k = between lowest m twice_highest tt tt h k
+-- m is in that range
+pub record InRange (k : ℕ) (m : Float) : Type 0 where
+  pub at_least : T (le (lowest k) m)
+  pub at_most : T (le m (highest k))
 
-pub sqrt_square : (m : Float) → T (fits binary32 m) → T (le lowest m) → T (le m twice_highest) → sqrt binary32 (mul binary32 m m) ≡ m
-unfolding of_bits
-sqrt_square m fit h k =
-    let p = positive_in_range m h k in
-    root_of_square binary32 m p
-    (normal_square (hid binary32) (2 ^ 60) (2 ^ low binary32) (num m) (den m) (omega (arith, le→cross lowest m tt p h)) (lit≤ tt))
-    (small_square (2 ^ 61) (2 ^ emax binary32) (num m) (den m) (omega (arith, le→cross m twice_highest p tt k)) (lit≤ tt))
-    binary64 (lit≤ tt) (lit≤ tt) fit
+module _ (k : ℕ) (m : Float) (within : InRange k m) where
+  lowest_positive : T (positive (lowest k))
+  lowest_positive = positive_of_value (lowest k) 1 (2 ^ k) (lowest_value k) (zero-lt-suc 0)
 
--- ---- with the sign of the number squared left off
-square_of_size : (f : Format) (x : Float) → mul f x x ≡ mul f (abs x) (abs x)
-square_of_size f x = go (is_negative x) (Order.abs_is x)
-  where
-    go : (s : Bool) → abs x ≡ cond s (neg x) x → mul f x x ≡ mul f (abs x) (abs x)
-    go true e = sym (ap (λ (y : Float). mul f y y) e ∙ mul_neg f x (neg x) ∙ ap neg (mul_neg_right f x x) ∙ Order.neg_neg (mul f x x))
-    go false e = ap (λ (y : Float). mul f y y) (sym e)
+  pub range_positive : T (positive m)
+  range_positive = between (lowest k) m (highest k) lowest_positive tt within.at_least within.at_most
 
-pub sqrt_square_size : (x : Float) → T (fits binary32 x) → T (le lowest (abs x)) → T (le (abs x) twice_highest) → sqrt binary32 (mul binary32 x x) ≡ abs x
-sqrt_square_size x fit h k = ap (sqrt binary32) (square_of_size binary32 x) ∙ sqrt_square (abs x) (Order.abs_fits binary32 x fit) h k
+  pub den_below : den m ≤ num m * 2 ^ k
+  den_below =
+      rw (one-mul (den m)) at (values_of_le (lowest k) m 1 (2 ^ k) (num m) (den m) lowest_positive range_positive (lowest_value k) (own_value m range_positive) within.at_least)
+
+  pub num_below : num m ≤ 2 ^ k * den m
+  num_below = omega (arith, le→cross m (highest k) range_positive tt within.at_most)
+
+module _ (f : Format) (k : ℕ) (room : k + k < emax f) where
+  pub sqrt_square : (m : Float) → T (fits f m) → InRange k m → sqrt f (mul f m m) ≡ m
+  sqrt_square m fit within =
+      root_of_square f m (range_positive k m within)
+      (normal_square (hid f) (2 ^ k) (2 ^ low f) (num m) (den m) (den_below k m within) fine)
+      (small_square (2 ^ k) (2 ^ emax f) (num m) (den m) (num_below k m within) (le_trans (le_of_eq (sym (pow-add 2 k k))) (pow_mono (le_of_lt room))))
+      fit
+    where
+      reach : (p e : ℕ) → 2 ≤ p → k + k < e → p - 1 + (k + k) ≤ e + p - 2
+      reach p e P h = omega arith
+
+      fine : hid f * (2 ^ k * 2 ^ k) ≤ 2 ^ low f
+      fine =
+          le_trans (le_of_eq (ap (λ (x : ℕ). hid f * x) (sym (pow-add 2 k k)) ∙ sym (pow-add 2 (prec f - 1) (k + k)))) (pow_mono (reach (prec f) (emax f) (two f) room))
+
+  -- with the sign of the number squared left off
+  square_of_size : (x : Float) → mul f x x ≡ mul f (abs x) (abs x)
+  square_of_size x = go (is_negative x) (Order.abs_is x)
+    where
+      go : (s : Bool) → abs x ≡ cond s (neg x) x → mul f x x ≡ mul f (abs x) (abs x)
+      go true e = sym (ap (λ (y : Float). mul f y y) e ∙ neg_square f x)
+      go false e = ap (λ (y : Float). mul f y y) (sym e)
+
+  pub sqrt_square_size : (x : Float) → T (fits f x) → InRange k (abs x) → sqrt f (mul f x x) ≡ abs x
+  sqrt_square_size x fit within = ap (sqrt f) (square_of_size x) ∙ sqrt_square (abs x) (Order.abs_fits f x fit) within

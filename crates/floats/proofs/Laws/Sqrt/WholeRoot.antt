@@ -1,6 +1,6 @@
 -- `whole_root n` is the one number r with r² ≤ n < (r + 1)². It grows with n, and a root cut down by c is the root of n cut down by c². Assumes nothing.
-use Rattle.std.proofs.Common.{◌≡◌, ℕ, zero, suc, ◌+◌, ◌*◌, ◌/◌, ◌^◌, ◌<◌, ◌≤◌, Bool, true, false, cond, not, T, leb, sym, ◌∙◌, subst, zero-le, le_trans, le_of_eq, lt_of_lt_of_le, lt_of_le_of_lt, add_assoc, div-lt_iff_lt-mul, add-mul, mul-le-mul, mul-pos, one-mul, lt_of_not-le, le-div_iff_mul-le, zero-add, mul-one, mul-add, not-le_of_lt, le-mul_of_pos_right, div-mul-le_self, add-one-le, arith, leb→le, pow_pos}
-use native.Mathlib.Nat.{mul-mul-mul_comm, lt-div-mul-add, two-pow-succ}
+use Rattle.std.proofs.Common.{ap, pow-suc, ◌≡◌, ℕ, zero, suc, ◌+◌, ◌*◌, ◌/◌, ◌^◌, ◌<◌, ◌≤◌, Bool, true, false, cond, not, T, leb, sym, ◌∙◌, subst, zero-le, le_trans, le_of_eq, lt_of_lt_of_le, lt_of_le_of_lt, add_assoc, div-lt_iff_lt-mul, add-mul, mul-le-mul, mul-pos, one-mul, lt_of_not-le, le-div_iff_mul-le, zero-add, mul-one, mul-add, not-le_of_lt, le-mul_of_pos_right, div-mul-le_self, add-one-le, arith, leb→le, pow_pos}
+use native.Mathlib.Nat.{pow-zero, mul-mul-mul_comm, lt-div-mul-add, two-pow-succ}
 use lib.Dec.{nleb→lt}
 use lib.Ieee.{size}
 use lib.Ieee.Digits.{size-lt}
@@ -9,6 +9,9 @@ use Rattle.floats.specs.Sqrt.{root_digits, whole_root}
 -- r² ≤ n < (r + 1)²
 abbrev pub IsRoot : ℕ → ℕ → Type 0
 IsRoot r n = (r * r ≤ n) × (n < (r + 1) * (r + 1))
+
+pub square_is : (a : ℕ) → a ^ 2 ≡ a * a
+square_is a = pow-suc a 1 ∙ ap (λ (x : ℕ). x * a) (pow-suc a 0 ∙ ap (λ (x : ℕ). x * a) (pow-zero a) ∙ one-mul a)
 
 pub next_square : (r : ℕ) → (r + 1) * (r + 1) ≡ r * r + 2 * r + 1
 next_square r = mul-add (r + 1) r 1 ∙ rw (add-mul, mul-one, one-mul) (sum (r * r) r)

@@ -1,0 +1,44 @@
+-- `floats::sin_cos::cosf` meets its contract: the pattern of the size chooses the case. Assumes nothing.
+use Rattle.std.proofs.Common.{sym, ap, ◌∙◌}
+use Rattle.floats.specs.SinCos.{cosf, k_cosf}
+use Rattle.floats.proofs.Laws.Special.{nan_by_ne}
+use Rattle.floats.proofs.Laws.Ranges.{size_small, size_first, size_near, size_far, size_beyond}
+use Rattle.floats.proofs.Laws.SinCos.{cosf_nan}
+use Rattle.floats.proofs.sin_cos.cosf.Goals as goal
+
+pub returns-then-x : goal.returns-then-x
+returns-then-x c = rw (nan_by_ne c.args.x c.if-x.true) (sym cosf_nan)
+
+pub returns-then-size-lt-TINY : goal.returns-then-size-lt-TINY
+unfolding cosf
+returns-then-size-lt-TINY c =
+    let size = c.size_bits-size in
+    sym (size_small c.args.x size.result c.well_formed.0.1 size.ensures _ _ _ _ _ c.if-size-le-UPTO_PI_4.true c.if-size-lt-TINY.true)
+
+pub returns-then-size-le-UPTO_PI_4 : goal.returns-then-size-le-UPTO_PI_4
+unfolding cosf
+returns-then-size-le-UPTO_PI_4 c =
+    let size = c.size_bits-size in
+    c.k_cosf.ensures ∙ ap k_cosf c.f32_to_f64_with_nan.ensures ∙ sym (size_first c.args.x size.result c.well_formed.0.1 size.ensures _ _ _ _ _
+    c.if-size-le-UPTO_PI_4.true c.if-size-lt-TINY.false)
+
+pub returns-then-size-le-UPTO_5PI_4 : goal.returns-then-size-le-UPTO_5PI_4
+unfolding cosf
+returns-then-size-le-UPTO_5PI_4 c =
+    let size = c.size_bits-size in
+    c.cosf_near.ensures ∙ sym (size_near c.args.x size.result c.well_formed.0.1 size.ensures _ _ _ _ _ c.if-size-le-UPTO_PI_4.false
+    c.if-size-le-UPTO_5PI_4.true)
+
+pub returns-then-size-le-UPTO_9PI_4 : goal.returns-then-size-le-UPTO_9PI_4
+unfolding cosf
+returns-then-size-le-UPTO_9PI_4 c =
+    let size = c.size_bits-size in
+    c.cosf_far.ensures ∙ sym (size_far c.args.x size.result c.well_formed.0.1 size.ensures _ _ _ _ _ c.if-size-le-UPTO_PI_4.false
+    c.if-size-le-UPTO_5PI_4.false c.if-size-le-UPTO_9PI_4.true)
+
+pub returns : goal.returns
+unfolding cosf
+returns c =
+    let size = c.size_bits-size in
+    c.cosf_reduced.ensures ∙ sym (size_beyond c.args.x size.result c.well_formed.0.1 size.ensures _ _ _ _ _ c.if-size-le-UPTO_PI_4.false
+    c.if-size-le-UPTO_5PI_4.false c.if-size-le-UPTO_9PI_4.false)

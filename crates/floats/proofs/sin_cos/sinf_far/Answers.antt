@@ -1,0 +1,35 @@
+-- `floats::sin_cos::sinf_far` meets its contract: one comparison chooses the angle and the sign. Assumes nothing.
+use Rattle.std.proofs.Common.{◌≡◌, Bool, true, false, cond, refl, lit≤}
+use lib.Ieee.{Float, binary32, neg}
+use Rattle.floats.specs.Ops.{◌⊞◌, ◌⊟◌}
+use Rattle.floats.specs.SinCos.{sinf_far, k_cosf, negative, pio2_times_3}
+use Rattle.floats.proofs.Laws.Order.{neg_neg}
+use Rattle.floats.proofs.Laws.Sizes.{upto_true, upto_false}
+use Rattle.floats.proofs.sin_cos.sinf_far.Goals as goal
+
+one_choice : (b : Bool) (u v : Float) → neg (cond b (neg (k_cosf (cond b u v))) (k_cosf (cond b u v))) ≡ cond b (k_cosf u) (neg (k_cosf v))
+one_choice true u v = neg_neg (k_cosf u)
+one_choice false u v = refl
+
+pub returns-then-size_bits-gt-UPTO_7PI_4 : goal.returns-then-size_bits-gt-UPTO_7PI_4
+unfolding sinf_far
+returns-then-size_bits-gt-UPTO_7PI_4 c =
+    let size = c.size_bits in
+    simp (
+      upto_false binary32 0x40AF_EDDF (lit≤ tt) c.args.x size.result c.well_formed.0.1 size.ensures c.if-size_bits-gt-UPTO_7PI_4.true,
+      c.k_sinf.ensures,
+      c.nearer.ensures,
+    )
+
+pub returns : goal.returns
+unfolding sinf_far
+returns c =
+    let size = c.size_bits in
+    let x = c.args.x in
+    simp (
+      upto_true binary32 0x40AF_EDDF (lit≤ tt) c.args.x size.result c.well_formed.0.1 size.ensures c.if-size_bits-gt-UPTO_7PI_4.false,
+      c.with_sign.ensures,
+      c.k_cosf.ensures,
+      c.nearer-2.ensures,
+    )
+    (one_choice (negative x) (x ⊞ pio2_times_3) (x ⊟ pio2_times_3))

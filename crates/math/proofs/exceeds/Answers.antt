@@ -1,0 +1,21 @@
+-- `math::exceeds` meets its contract. Assumes nothing.
+use Rattle.std.proofs.Common.{rules}
+use mathlib.Core.Path.{sym}
+use Rattle.math.specs.Inner.{exceeds}
+use Rattle.math.proofs.Laws.Length.{square_not_below}
+use Rattle.math.proofs.exceeds.Goals as goal
+
+pub surely_within-requires : goal.surely_within-requires
+surely_within-requires c = rw c.dot-square.ensures (square_not_below c.args.v)
+
+pub returns-then-surely_within : goal.returns-then-surely_within
+unfolding exceeds
+returns-then-surely_within c = sym (rw c.dot-square.ensures at (c.surely_within.ensures c.if-surely_within.true).not_above)
+
+pub returns-then-surely_beyond : goal.returns-then-surely_beyond
+unfolding exceeds
+returns-then-surely_beyond c = sym (rw c.dot-square.ensures at (c.surely_beyond.ensures c.if-surely_beyond.true).above)
+
+pub returns : goal.returns
+unfolding exceeds
+returns c = search rules

@@ -1,0 +1,12 @@
+-- `records::read::read_commanded_heading` meets its contract. Assumes nothing.
+use borrow.Author.Tests.{ne_eqb}
+use Rattle.records.specs.Read.{waypoint_command}
+use Rattle.records.proofs.read.read_commanded_heading.Goals as goal
+
+pub returns-then-part-eq1 : goal.returns-then-part-eq1
+unfolding waypoint_command
+returns-then-part-eq1 c = rw (c.if-part-eq1.true, c.read_f32.ensures)
+
+pub returns : goal.returns
+unfolding waypoint_command
+returns c = rw (ne_eqb _ 1 c.if-part-eq1.false)

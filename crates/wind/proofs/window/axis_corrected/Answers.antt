@@ -1,0 +1,21 @@
+-- `wind::window::axis_corrected` meets its contract: the slope that it is handed is the drag's at the air velocity. Assumes nothing.
+use Rattle.wind.specs.Wind.{axis_corrected}
+use Rattle.wind.proofs.Laws.Drag.{air_handed_on, none_handed_on, noise_handed_on}
+use Rattle.wind.proofs.window.axis_corrected.Goals as goal
+
+pub returns-in_default : goal.returns-in_default
+unfolding axis_corrected
+returns-in_default c = rw (none_handed_on _ _ _ c.in_default.ensures)
+
+pub returns : goal.returns
+unfolding axis_corrected
+returns c =
+    let handed = air_handed_on _ _ _ _ _ c.in-Along.ensures in
+    rw (
+      handed.0,
+      c.correct.ensures,
+      c.noise-noise_mps.ensures,
+      handed.1,
+      noise_handed_on,
+      c.dot.ensures,
+    )

@@ -5,4 +5,5 @@ pub mod WindHeading
 pub mod Leg
 pub mod Yield
 pub mod Side
+pub mod Turn
 pub mod Toward

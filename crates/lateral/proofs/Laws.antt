@@ -1,5 +1,6 @@
 -- Laws of the definitions of specs/.
 pub mod Vectors
 pub mod Shaping
+pub mod Hold
 pub mod NotFinite
 pub mod Integral

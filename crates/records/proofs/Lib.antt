@@ -1,4 +1,5 @@
 -- What the proofs share, and what the layers above cite. Assumes nothing.
+pub mod Written
 pub mod Parts
 pub mod Steps
 pub mod Underway

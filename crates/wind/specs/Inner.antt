@@ -1,5 +1,5 @@
 -- How the port divides an update of the wind: what its inner functions give. Nothing here has to be believed, since an update is stated without it, and
--- the laws of proofs/Laws/Drag.antt tie the two. Assumes nothing.
+-- the laws of proofs/Laws/Drag.antt tie the two. `AxisDrag::air_velocity` alone names `with_slope`, which adds the slope to the air velocity. Assumes nothing.
 use Rattle.std.specs.Prelude.{cond, Option, Some, None, Float}
 use Rattle.std.specs.Float.Ieee.{lt}
 use Rattle.floats.specs.Ops.{◌⊘◌}

@@ -2,13 +2,13 @@
 // rotors' momentum drag.
 ghost use Rattle.std.specs.Prelude.{◌≡◌, true};
 ghost use Rattle.math.specs.Math.{zero};
-ghost use Rattle.wind.specs.Drag.{is_on, axis_drag, push, slope, newton_step, still_air, against, drag_along, drag};
-ghost use Rattle.wind.specs.Inner.{three_steps, air_and_slope};
+ghost use Rattle.wind.specs.Drag.{is_on, axis_drag, push, slope, newton_step, still_air, against, air_velocity, drag_along, drag};
+ghost use Rattle.wind.specs.Inner.{three_steps, air_and_slope, with_slope};
 
 use math::vectors::Vec2;
 
 // Sea-level air density, in kg/m³.
-const AIR_DENSITY_KGPM3: f32 = 1.225;
+pub const AIR_DENSITY_KGPM3: f32 = 1.225;
 
 // Document 01's fields 42 to 50, in the order of the source: the drag along the thrust frame's x and
 // y, where 0 leaves a term out, the filter's noise, and the most speed along the thrust axis.
@@ -40,7 +40,7 @@ pub enum AirVelocity {
 
 // A speed that Newton's method has found, and the push's slope there or at the speed before.
 #[derive(Clone, Copy)]
-struct Step {
+pub struct Step {
     pub speed: f32,
     pub slope_per_s: f32,
 }
@@ -93,7 +93,7 @@ impl AxisDrag {
     }
 
     // The drag against an air velocity, where there is no air along the thrust axis.
-    fn drag_along(self, air_mps: f32) -> f32
+    pub fn drag_along(self, air_mps: f32) -> f32
         ensures { result ≡ drag_along self air_mps }
     {
         -self.level_push_mps2(air_mps) * floats::compare::signum(air_mps)
@@ -112,7 +112,7 @@ impl AxisDrag {
     }
 
     // The size of the drag's acceleration, with air along the axis and along the thrust axis.
-    fn push_mps2(self, air_mps: f32, axial_mps: f32) -> f32
+    pub fn push_mps2(self, air_mps: f32, axial_mps: f32) -> f32
         ensures { result ≡ push self air_mps axial_mps }
     {
         let airspeed_mps = floats::sqrt::sqrtf(air_mps * air_mps + axial_mps * axial_mps);
@@ -178,9 +178,11 @@ impl AxisDrag {
     }
 
     // The air velocity that the drag `force_mps2` comes from, and the slope there. Drag opposes the air
-    // velocity, so that it is against the force.
+    // velocity, so that it is against the force. The clauses say the same, by the source's steps and as
+    // the code divides them.
     pub fn air_velocity(self, force_mps2: f32, axial_mps: f32) -> AirVelocity
-        ensures { result ≡ air_and_slope self force_mps2 axial_mps }
+        ensures of_source { result ≡ with_slope self axial_mps (air_velocity self force_mps2 axial_mps) }
+        ensures in_steps { result ≡ air_and_slope self force_mps2 axial_mps }
     {
         let push = floats::compare::abs(force_mps2);
         if self.k_per_m > 0.0 {

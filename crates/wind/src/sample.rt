@@ -4,7 +4,7 @@ ghost use Rattle.std.specs.Prelude.{◌≡◌};
 ghost use Rattle.wind.specs.Sample.{rotation, body_axes, dot3, along, specific_force_ned, sample_finite, from_state};
 
 use crate::state::VehicleState;
-use math::GRAVITY;
+pub use math::GRAVITY;
 use math::vectors::{Quaternion, Vec2, Vec3};
 
 // Cosine of the most tilt that a sample is taken at, 45 degrees: the root of a half.
@@ -28,7 +28,7 @@ pub enum Sampled {
 
 // The body's axes, each as north, east and down.
 #[derive(Clone, Copy)]
-struct BodyAxes {
+pub struct BodyAxes {
     pub x: Vec3,
     pub y: Vec3,
     pub z: Vec3,

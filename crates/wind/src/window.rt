@@ -10,7 +10,7 @@ use crate::state::VehicleState;
 use math::vectors::Vec2;
 
 // Seconds that the samples are averaged over before each update.
-const UPDATE_PERIOD_S: f32 = 0.2;
+pub const UPDATE_PERIOD_S: f32 = 0.2;
 
 // Least drag slope, in 1/s, that an axis's noise is divided by.
 const MIN_DRAG_SLOPE_PER_S: f32 = 0.001;
@@ -41,7 +41,7 @@ pub struct WindEstimator {
 }
 
 impl Window {
-    fn empty() -> Window
+    pub fn empty() -> Window
         ensures { result ≡ empty }
     {
         Window {
@@ -56,7 +56,7 @@ impl Window {
     }
 
     // With one sample more.
-    fn grown(self, dt: f32, sample: Sample) -> Window
+    pub fn grown(self, dt: f32, sample: Sample) -> Window
         ensures { result ≡ grown self dt sample }
     {
         let force = self.specific_force_mps2;
@@ -186,7 +186,7 @@ fn closed(filter: Filter, config: WindConfig, window: Window) -> WindEstimate
 
 // A window's means along one axis.
 #[derive(Clone, Copy)]
-struct Measured {
+pub struct Measured {
     pub force_mps2: f32,
     pub ground_mps: f32,
     pub axial_mps: f32,

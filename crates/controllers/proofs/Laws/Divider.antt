@@ -6,12 +6,12 @@ use mathlib.Core.Logic.{◌↔◌}
 use Prim.Native.Nat.{ℕ}
 use native.Mathlib.Omega.{arith}
 use lib.Dec.{T}
-use lib.Ieee.{Float, binary32, le, add, sub, mul, of_bits, fits, is_nan}
+use lib.Ieee.{Float, binary32, lt, le, add, sub, mul, of_bits, fits, is_nan}
 use lib.Ieee.Fits.{add-fits}
 use lib.Ieee.Scale.{finite}
 use lib.Ieee.Positive.{positive, between, mul_mono}
 use Rattle.floats.specs.Ops.{f32, ◌⊕◌, ◌⊖◌, ◌⊗◌}
-use Rattle.floats.proofs.Laws.Order.{number, le_numbers, float_le_refl, float_le_trans, finite_between}
+use Rattle.floats.proofs.Laws.Order.{number, le_numbers, float_le_refl, float_le_trans, lt_le_trans, finite_between}
 use Rattle.floats.proofs.Laws.Sum.{add_mono, sub_mono, sub_numbers, number_add, number_sub, add_nonneg_number, le_add}
 use Rattle.math.specs.Math.{zero, half, one}
 use Rattle.controllers.specs.declared.rate_divider.RateDivider.{RateDivider}
@@ -24,6 +24,10 @@ use Rattle.controllers.specs.RateDivider.{due, ran, shortest, longest, Accepted,
 pub first_call_due : (dt period : Float) → due NeverRan dt period ≡ record { divider = NeverRan; due = Step dt }
 unfolding due
 first_call_due dt period = refl
+
+pub elapsed_grows : (before dt period : Float) → (due (Elapsed before) dt period).divider ≡ Elapsed (before ⊕ dt)
+unfolding due
+elapsed_grows before dt period = refl
 
 never_both : (t : Float) → NotYet ≡ Step t → ⊥
 never_both t p = let z : ◌≡◌ {A = ℕ} 0 1 = cc in omega arith
@@ -45,6 +49,11 @@ later_call_due before dt period t = step_by_test (le (period ⊖ half ⊗ dt) (b
 pub accepted→legal : (dt : Float) → Accepted dt → Legal dt
 unfolding le of_bits
 accepted→legal dt a = (a.at_least, float_le_trans dt one longest a.at_most tt)
+
+-- a legal step is positive and finite
+pub legal_positive : (t : Float) → Legal t → T (lt zero t)
+unfolding lt of_bits
+legal_positive t l = lt_le_trans zero shortest t tt l.0
 
 pub legal_finite : (t : Float) → Legal t → T (finite t)
 unfolding of_bits
@@ -74,6 +83,22 @@ pub step_is_legal : (d : RateDivider) (dt period t : Float) → Bounded d → Ac
 unfolding due
 step_is_legal NeverRan dt period t b a e = subst Legal (step_same dt t e) (accepted→legal dt a)
 step_is_legal (Elapsed before) dt period t b a e = subst Legal ((later_call_due before dt period t).0 e).1 (legal_sum before dt b a)
+
+-- ---- any number of calls
+
+-- the dividers that accepted steps lead to from one that never ran, whatever the periods, with runs and resets in between
+pub data Reached : RateDivider → Type 0 where
+  never_ran : Reached NeverRan
+  ran_now : Reached ran
+  stepped : {d : RateDivider} (dt period : Float) → Accepted dt → Reached d → Reached (due d dt period).divider
+
+pub elapsed_bounded : {d : RateDivider} → Reached d → Bounded d
+elapsed_bounded never_ran = tt
+elapsed_bounded ran_now = ran_bounded
+elapsed_bounded (stepped {d = d} dt period a r) = due_keeps_bound d dt period (elapsed_bounded r) a
+
+pub reached_step_is_legal : {d : RateDivider} → Reached d → (dt period t : Float) → Accepted dt → (due d dt period).due ≡ Step t → Legal t
+reached_step_is_legal {d} r dt period t a e = step_is_legal d dt period t (elapsed_bounded r) a e
 
 -- ---- a call that was due and did not run
 

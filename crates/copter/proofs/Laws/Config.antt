@@ -148,6 +148,10 @@ pub above_descending_is_above_touchdown : (value : Float) → T (above_descendin
 unfolding above_descending
 above_descending_is_above_touchdown value = both (lt (f32 0x3E4C_CCCD) value) (finite value)
 
+pub up_to_pi_is_zero_to_pi : (value : Float) → T (up_to_pi value) ↔ T (le math.zero value) × T (le value math.pi)
+unfolding up_to_pi
+up_to_pi_is_zero_to_pi value = both (le math.zero value) (le value math.pi)
+
 -- ---- the defaults
 
 -- The search for a field that breaks its rule ends past the last.

@@ -1,6 +1,6 @@
 -- The heading target after each call: wrapped; if the wrap is not finite, the wrapped estimate; if that is not finite either, kept. A wrapped finite angle is
--- at least -π and below π. Assumes nothing.
-use mathlib.Core.Path.{◌≡◌}
+-- at least -π and below π. A priming stores the heading as given. Assumes nothing.
+use mathlib.Core.Path.{◌≡◌, refl}
 use lib.Dec.{T}
 use lib.Ieee.{Float, binary32, lt, fits}
 use lib.Ieee.Bits.{is_true, is_false}
@@ -28,7 +28,7 @@ use Rattle.copter.specs.declared.commands.AbsoluteAttitudeCommand.{AbsoluteAttit
 use Rattle.copter.specs.declared.commands.LandCommand.{LandCommand}
 use Rattle.copter.specs.declared.commands.AbsoluteRateCommand.{AbsoluteRateCommand}
 use Rattle.copter.specs.declared.memory.CopterGuidance.{CopterGuidance}
-use Rattle.copter.specs.Guide.{followed_heading, heading_target, command_heading, wind_updated, piloted}
+use Rattle.copter.specs.Guide.{followed_heading, heading_target, command_heading, wind_updated, piloted, prime}
 use Rattle.copter.specs.Guide.{attitude_call, absolute_attitude_call, absolute_rate_call, fly_to, waypoint_call, land_call}
 use Rattle.copter.specs.Calls.{Heads, HeadsTo, as_it_is, rewrapped, stick_turned, waypoint_turn, land_turn}
 
@@ -207,3 +207,9 @@ module _ (self : CopterGuidance) (dt : Float) (state : VehicleState)
   land_heading command =
       twice_heads (heading self) (land_turn self dt state).heading_rad state.heading_rad
       (land_target_fits dt self.config.guidance.heading (heading self) state p q self.memory.leg_heading (updated_estimate self dt state)) q
+
+-- ---- a priming
+
+pub prime_heading : (self : CopterGuidance) (state : VehicleState) → heading (prime self state) ≡ state.heading_rad
+unfolding prime
+prime_heading self state = refl

@@ -1,5 +1,5 @@
 -- What a piloted call does: all but the stored tilt and capped is reset, the raw throttle decides whether it is idle, and the thrust is in [0, 1]. It reads
--- nothing of the lateral memory. Assumes nothing.
+-- nothing of the lateral memory. A priming leaves a divider and a request as after a reset. Assumes nothing.
 use mathlib.Core.Path.{◌≡◌, refl}
 use mathlib.Core.Bool.{not}
 use lib.Dec.{T}
@@ -14,11 +14,12 @@ use Rattle.copter.specs.declared.memory.LateralMemory.{LateralMemory}
 use Rattle.copter.specs.declared.memory.CopterGuidance.{CopterGuidance}
 use Rattle.copter.specs.declared.thrust.PilotedThrust.{PilotedThrust}
 use Rattle.copter.specs.Config.{below_one}
-use Rattle.copter.specs.Memory.{fresh_vertical, reset_lateral}
+use Rattle.copter.specs.Memory.{fresh_vertical, fresh_lateral, reset_lateral}
 use Rattle.copter.specs.Thrust.{boosted}
-use Rattle.copter.specs.Guide.{wind_updated, piloted, piloted_flags, attitude_call, absolute_attitude_call, absolute_rate_call}
+use Rattle.copter.specs.Guide.{wind_updated, piloted, piloted_flags, attitude_call, absolute_attitude_call, absolute_rate_call, prime}
 use Rattle.copter.specs.Calls.{thrust_of, PilotedCall}
 use Rattle.copter.proofs.Laws.Calls.{Piloted, attitude, absolute_attitude, absolute_rate, pilot}
+use Rattle.copter.proofs.Laws.Navigation.{FromReset}
 use Rattle.copter.proofs.Laws.Thrust.{InUnit, idle_by_raw_throttle, absolute_idle_by_raw_thrust, stick_thrust_in_unit, absolute_thrust_in_unit}
 
 -- ---- a piloted call
@@ -101,3 +102,13 @@ unfolding with_lateral attitude_call absolute_attitude_call absolute_rate_call p
 lateral_unread self dt state (attitude command) lateral = refl
 lateral_unread self dt state (absolute_attitude command) lateral = refl
 lateral_unread self dt state (absolute_rate command) lateral = refl
+
+-- ---- a priming
+
+pub prime_uprights : (self : CopterGuidance) (state : VehicleState) → (prime self state).memory.lateral ≡ fresh_lateral
+unfolding prime
+prime_uprights self state = refl
+
+pub upright_from_reset : FromReset fresh_lateral
+unfolding fresh_lateral
+upright_from_reset = record { never_ran = refl; no_request = refl }

@@ -6,10 +6,11 @@ use mathlib.Core.Path.{◌≡◌, refl}
 use Prim.Native.Nat.{ℕ}
 use native.Mathlib.Omega.{arith}
 use lib.Dec.{T}
-use lib.Ieee.{Float, binary32, fits, of_bits}
+use lib.Ieee.{Float, binary32, fits, of_bits, le}
 use lib.Ieee.Scale.{finite}
+use Rattle.math.specs.Math.{one}
 use Rattle.math.specs.Vectors.{zeros}
-use Rattle.controllers.specs.RateDivider.{due, Accepted, Bounded}
+use Rattle.controllers.specs.RateDivider.{due, shortest, Accepted, Bounded}
 use Rattle.controllers.specs.declared.rate_divider.RateDivider.{RateDivider}
 use Rattle.controllers.specs.declared.rate_divider.RateDivider.TheVariants.{NeverRan, Elapsed}
 use Rattle.controllers.specs.declared.rate_divider.Due.{Due}
@@ -102,6 +103,10 @@ module _ (config : CopterGuidanceConfig) (valid : Valid config) where
         s.integral
 
 -- ---- wind memory
+
+-- A time step within both bounds is accepted.
+pub accepted_step : (dt : Float) → T (le shortest dt) × T (le dt one) → Accepted dt
+accepted_step dt a = record { at_least = a.0; at_most = a.1 }
 
 wind_updated_sound : (self : Memory) (config : CopterGuidanceConfig) (dt : Float) (state : VehicleState) → Accepted dt → winds.Sound self.wind
     → winds.Sound (wind_updated self config dt state)

@@ -1,10 +1,10 @@
--- What sets the flag of a thrust, and when a throttle is idle. A piloted thrust is in [0, 1], and a navigated one is a NaN or from the floor to 1.
+-- What sets the flag of a thrust, when a throttle is idle, and when a craft counts as sinking. A piloted thrust is in [0, 1], and a navigated one is a NaN or from the floor to 1.
 -- Assumes nothing.
 use mathlib.Core.Path.{◌≡◌, refl}
 use mathlib.Core.Bool.{Bool, true, false, not, cond, ◌&&◌, ◌||◌}
 use mathlib.Core.Logic.{inl, inr}
 use lib.Dec.{T}
-use lib.Ieee.{Float, nan, is_nan, neg, of_bits, lt, le}
+use lib.Ieee.{Float, binary32, nan, is_nan, fits, neg, of_bits, lt, le}
 use lib.Ieee.Bits.{is_true, is_false}
 use Rattle.floats.specs.Ops.{◌⊖◌, ◌⊗◌}
 use Rattle.floats.specs.MinMax.{max}
@@ -16,6 +16,7 @@ use Rattle.math.specs.declared.SinkGuard.{SinkGuard}
 use Rattle.math.specs.declared.SinkGuard.TheVariants.{Raised, Off}
 use Rattle.math.proofs.Laws.Cases.{by_test, cond_holds}
 use Rattle.math.proofs.Laws.Limits.{saturate_throttle_in_unit}
+use Rattle.math.proofs.Laws.Thrust.{excess_positive}
 use Rattle.altitude.specs.Altitude.{control}
 use Rattle.altitude.specs.declared.AltitudeControllerConfig.{AltitudeControllerConfig}
 use Rattle.altitude.specs.declared.AltitudeTarget.{AltitudeTarget}
@@ -60,6 +61,12 @@ unfolding boost
 boost_flags_above_ceiling throttle ceiling attitude =
     flag_by_test (lt (max ceiling throttle) (throttle ⊗ tilt_boost attitude)) (max ceiling throttle) (throttle ⊗ tilt_boost attitude)
 
+pub boosted_flags_either : (throttle ceiling : Float) (attitude : Quaternion)
+    → (boosted throttle attitude ceiling).saturated
+    ≡ (boost throttle attitude ceiling).saturated || (clip_thrust (boost throttle attitude ceiling).value).saturated
+unfolding boosted
+boosted_flags_either throttle ceiling attitude = refl
+
 pub floor_flags_below : (thrust least : Float) → (floor_thrust thrust least).saturated ≡ lt thrust least
 unfolding floor_thrust
 floor_flags_below thrust least = flag_by_test (lt thrust least) least thrust
@@ -77,6 +84,11 @@ pub guard_flags_sink : (thrust : Thrust) (climb : Float) (limits : ThrustLimits)
     → (guarded thrust climb limits).saturated ≡ sinks_past climb limits || thrust.saturated
 unfolding guarded guard_sink
 guard_flags_sink thrust climb limits = guard_by_flag (sinks_past climb limits) _ thrust
+
+-- of floats that the format holds, the difference is positive where the climb is below minus the limit
+pub sinks_past_limit : (climb : Float) (limits : ThrustLimits) → T (fits binary32 climb) → T (fits binary32 limits.sink_limit_mps)
+    → sinks_past climb limits ≡ lt zero limits.sink_limit_mps && lt climb (neg limits.sink_limit_mps)
+sinks_past_limit climb limits p q = rw (excess_positive climb limits.sink_limit_mps p q)
 
 pub navigated_flags_bounds_and_floor : (linear least : Float)
     → (navigated_thrust linear least).saturated ≡ le linear zero || le one linear || lt linear least
@@ -106,6 +118,11 @@ module _ (throttle : Float) (thrust : Thrust) (climb idle : Float) (limits : Thr
   unfolding hold_piloted
   idle_by_raw_throttle = idle_by_test (lt idle throttle) _ _ _ _
 
+  pub idle_passes_thrust : T (not (lt idle throttle))
+      → hold_piloted throttle thrust climb idle limits ≡ record { value = thrust.value; saturated = thrust.saturated; idle = true }
+  unfolding hold_piloted
+  idle_passes_thrust h = rw (is_false (lt idle throttle) h)
+
   -- beyond what boost and clip flag: the floor and the sink guard, of a throttle that is not idle
   pub piloted_flags_floor_and_sink : (hold_piloted throttle thrust climb idle limits).saturated
       ≡ thrust.saturated || lt idle throttle && (sinks_past climb limits || lt thrust.value limits.min_thrust)
@@ -116,6 +133,9 @@ module _ (throttle : Float) (thrust : Thrust) (climb idle : Float) (limits : Thr
         floor_flags_below thrust.value limits.min_thrust,
       )
       (held_by_test (lt idle throttle) thrust.saturated (sinks_past climb limits || lt thrust.value limits.min_thrust) _ _)
+
+pub nan_throttle_is_idle : (thrust : Thrust) (climb idle : Float) (limits : ThrustLimits) → (hold_piloted nan thrust climb idle limits).idle ≡ true
+nan_throttle_is_idle thrust climb idle limits = rw (idle_by_raw_throttle nan thrust climb idle limits, (nan_right idle).0)
 
 pub absolute_idle_by_raw_thrust : (thrust climb : Float) (config : CopterGuidanceConfig)
     → (hold_absolute thrust climb config).idle ≡ not (lt config.guidance.idle_throttle thrust)

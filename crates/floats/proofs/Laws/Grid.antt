@@ -1,18 +1,19 @@
--- Where arithmetic is exact: sums and differences of multiples of 2 ^ -g whose count fits the format's digits, products with a power of two that neither
--- underflow nor overflow, and every remainder. And a large value is a multiple of 2 ^ -g. Assumes nothing.
-use Rattle.std.proofs.Common.{◌≡◌, ℕ, zero, suc, ◌+◌, ◌-◌, ◌*◌, ◌%◌, ◌^◌, ◌<◌, ◌≤◌, Bool, true, false, not, ◌&&◌, T, ltb, leb, ◌⊎◌, ℤ, sym, refl, ap, ◌∙◌, subst, ap₂, inl, inr, suc-le-suc, zero-le, le_trans, le_of_eq, le_refl, lt_of_lt_of_le, le_of_suc-le-suc, lt_of_le_of_lt, le_of_lt, lt_irrefl, mul-le-mul_right, mod-lt, zero-lt-suc, mul_assoc, mul_comm, eq-or-lt_of_le, mul-le-mul_left, mul-lt-mul_of_pos_right, mul-pos, one-mul, lt_of_not-le, mul-one, mul_right_comm, le-mul_of_pos_right, mul_left_comm, arith, lit<, leb→le, pow_pos, pow_mono}
+-- Where arithmetic is exact: sums and differences of multiples of 2 ^ -g whose count fits the format's digits, products and quotients with a power of two that
+-- neither underflow nor overflow, and every remainder. And a rounded multiple of 2 ^ -g is one. Assumes nothing.
+use Rattle.std.proofs.Common.{◌≡◌, ℕ, zero, suc, ◌+◌, ◌-◌, ◌*◌, ◌%◌, ◌^◌, ◌<◌, ◌≤◌, Bool, true, false, not, ◌&&◌, T, ltb, leb, ◌⊎◌, ℤ, sym, refl, ap, ◌∙◌, subst, ap₂, inl, inr, suc-le-suc, zero-le, le_trans, le_of_eq, le_refl, lt_of_lt_of_le, le_of_suc-le-suc, lt_of_le_of_lt, le_of_lt, lt_irrefl, mul-le-mul_right, mod-lt, zero-lt-suc, mul_assoc, mul_comm, eq-or-lt_of_le, mul-le-mul_left, mul-lt-mul_of_pos_right, mul-pos, one-mul, lt_of_not-le, mul-one, mul_right_comm, le-mul_of_pos_right, mul_left_comm, sub-le, arith, lit<, leb→le, pow_pos, pow_mono}
 use native.Mathlib.Nat.{pow-succ', mod-le, eq_of_mul-eq-mul_right}
 use lib.Dec.{nleb→lt}
 use lib.Pow.{pow-lt}
-use lib.Ieee.{Float, fin, Format, binary32, binary64, prec, emax, low, up, down, unlike, round, neg, add, sub, mul, rem, lt, eq, fits, inf, nan}
+use lib.Ieee.{Float, fin, Format, binary32, binary64, prec, emax, low, up, down, unlike, round, neg, add, sub, mul, div, rem, le, lt, eq, fits, inf, nan}
 use lib.Ieee.Exact.{HasValue}
-use lib.Ieee.Fits.{up_pos, down_pos, two, two-le_pos}
+use lib.Ieee.Fits.{up_pos, down_pos, round-fits, two, two-le_pos}
+use lib.Ieee.Order.{round_mono}
 use lib.Ieee.Scale.{finite}
 use lib.Ieee.Positive.{num, den, den_pos}
 use Rattle.floats.specs.Compare.{abs, is_negative}
 use Rattle.floats.proofs.Laws.Order.{+0}
-use Rattle.floats.proofs.Laws.Fractions.{add_alike, add_opposite, sub_neg, mul_rounds, mod_scale, mod_same, common, common_swapped, digits_pos, rem_rounds}
-use Rattle.floats.proofs.Laws.Round.{le_times, Power, power_pos, up_power, down_power, mul_power, power_multiple, Holds, round_held, fits→holds, own_fraction, lt_of_fractions, nonzero_size, value_abs, value_same, value_neg}
+use Rattle.floats.proofs.Laws.Fractions.{total_sign, total_size, add_alike, add_opposite, add_rounds, sub_neg, mul_rounds, div_rounds, mod_scale, mod_same, common, common_swapped, digits_pos, rem_rounds}
+use Rattle.floats.proofs.Laws.Round.{le_times, Power, power_pos, up_power, down_power, mul_power, power_multiple, Holds, round_held, fits→holds, own_fraction, AtMost, le_of_fractions, lt_of_fractions, fractions_of_le, nonzero_size, value_finite, value_sign, value_abs, value_same, value_neg, finite_any_sign, round_neg, round_sign}
 
 -- ---- a count of 2 ^ -g
 
@@ -43,6 +44,15 @@ round_count f s a g h k = go (eq-or-lt_of_le k)
 
 -- ---- sums and differences of counts
 
+-- of any signs
+pub add_total_exact : (f : Format) (x y : Float) (s : Bool) (a : ℕ) (t : Bool) (b g : ℕ) → g ≤ low f → total_size s a t b ≤ 2 ^ prec f
+    → HasValue x s a (2 ^ g) → HasValue y t b (2 ^ g) → HasValue (add f x y) (total_sign s a t b) (total_size s a t b) (2 ^ g)
+add_total_exact f x y s a t b g h k v w = rw (add_rounds f x y s a t b (2 ^ g) (pow_pos g) v w) (round_count f (total_sign s a t b) (total_size s a t b) g h k)
+
+pub sub_total_exact : (f : Format) (x y : Float) (s : Bool) (a : ℕ) (t : Bool) (b g : ℕ) → g ≤ low f → total_size s a (not t) b ≤ 2 ^ prec f
+    → HasValue x s a (2 ^ g) → HasValue y t b (2 ^ g) → HasValue (sub f x y) (total_sign s a (not t) b) (total_size s a (not t) b) (2 ^ g)
+sub_total_exact f x y s a t b g h k v w = rw (sub_neg f x y) (add_total_exact f x (neg y) s a (not t) b g h k v (value_neg y t b (2 ^ g) w))
+
 -- of like signs
 pub add_exact : (f : Format) (x y : Float) (s : Bool) (a b g : ℕ) → g ≤ low f → a + b ≤ 2 ^ prec f → HasValue x s a (2 ^ g) → HasValue y s b (2 ^ g)
     → HasValue (add f x y) s (a + b) (2 ^ g)
@@ -58,7 +68,7 @@ pub sub_exact : (f : Format) (x y : Float) (s : Bool) (a b g : ℕ) → g ≤ lo
     → HasValue (sub f x y) (s && ltb b a) (a - b) (2 ^ g)
 sub_exact f x y s a b g h l k v w = rw (sub_neg f x y) (add_opposite_exact f x (neg y) s a b g h l k v (value_neg y s b (2 ^ g) w))
 
--- ---- which values are multiples of 2 ^ -g
+-- ---- rounding never leaves the multiples of 2 ^ -g
 
 -- of two powers of two that differ the larger is twice the smaller at least
 power_double : (u v : ℕ) → Power u → Power v → u < v → 2 * u ≤ v
@@ -94,7 +104,44 @@ large_on_grid f (fin s m e) g t p h =
 large_on_grid f nan g t p h = elim p [ ]
 large_on_grid f (inf _) g t p h = elim p [ ]
 
--- ---- products with a power of two
+on_grid : (f : Format) (a g : ℕ) → g ≤ low f → T (finite (round f false a (2 ^ g))) → (b : ℕ) × HasValue (round f false a (2 ^ g)) false b (2 ^ g)
+on_grid f a g h t = go (leb a (2 ^ prec f)) (leb→le a (2 ^ prec f)) (nleb→lt a (2 ^ prec f))
+  where
+    x : Float
+    x = round f false a (2 ^ g)
+
+    top : Float
+    top = round f false (2 ^ prec f) (2 ^ g)
+
+    large : 2 ^ prec f < a → (b : ℕ) × HasValue x (is_negative x) b (2 ^ g)
+    large l =
+        let v = round_count f false (2 ^ prec f) g h (le_refl (2 ^ prec f)) in
+        let k : AtMost false (2 ^ prec f) (2 ^ g) false (num x) (den x) =
+        subst (λ (s : Bool). AtMost false (2 ^ prec f) (2 ^ g) s (num x) (den x)) (round_sign f false a (2 ^ g))
+        (fractions_of_le top x false (2 ^ prec f) (2 ^ g) (is_negative x) (num x) (den x) v (own_fraction x t)
+        (round_mono f (2 ^ prec f) (2 ^ g) a (2 ^ g) (pow_pos g) (pow_pos g) (mul-le-mul_right (2 ^ g) (le_of_lt l)))) in
+        large_on_grid f x g (round-fits f false a (2 ^ g)) t (le_trans (mul-le-mul_right (den x) (pow_mono (sub-le (prec f) 1))) (omega arith))
+
+    go : (b : Bool) → (T b → a ≤ 2 ^ prec f) → (T (not b) → 2 ^ prec f < a) → (b : ℕ) × HasValue x false b (2 ^ g)
+    go true j k = (a, round_count f false a g h (j tt))
+    go false j k = subst (λ (s : Bool). (b : ℕ) × HasValue x s b (2 ^ g)) (round_sign f false a (2 ^ g)) (large (k tt))
+
+-- so a rounded fraction over 2 ^ g is still one
+pub round_on_grid : (f : Format) (s : Bool) (a g : ℕ) → g ≤ low f → T (finite (round f s a (2 ^ g))) → (b : ℕ) × HasValue (round f s a (2 ^ g)) s b (2 ^ g)
+round_on_grid f false a g h t = on_grid f a g h t
+round_on_grid f true a g h t =
+    let r = on_grid f a g h (subst T (finite_any_sign f true a (2 ^ g)) t) in
+    (r.0, rw (round_neg f false a (2 ^ g)) (value_neg (round f false a (2 ^ g)) false r.0 (2 ^ g) r.1))
+
+-- and so is every finite sum of two
+pub add_on_grid : (f : Format) (x y : Float) (s : Bool) (a : ℕ) (t : Bool) (b g : ℕ) → g ≤ low f → HasValue x s a (2 ^ g) → HasValue y t b (2 ^ g) → T (finite (add f x y))
+    → (n : ℕ) × HasValue (add f x y) (total_sign s a t b) n (2 ^ g)
+add_on_grid f x y s a t b g h v w p =
+    let e = add_rounds f x y s a t b (2 ^ g) (pow_pos g) v w in
+    let k = round_on_grid f (total_sign s a t b) (total_size s a t b) g h (subst (λ (z : Float). T (finite z)) e p) in
+    (k.0, rw e k.1)
+
+-- ---- products and quotients with a power of two
 
 -- x * 2 ^ i / 2 ^ j for a value x of the format, where no digit is lost below and the result does not overflow
 pub round_scaled : (f : Format) (s : Bool) (x : Float) (i j : ℕ) → T (fits f x) → T (finite x) → den x * 2 ^ j ≤ 2 ^ low f * 2 ^ i
@@ -118,6 +165,12 @@ pub mul_power_exact : (f : Format) (x y : Float) (t : Bool) (i j : ℕ) → T (f
     → HasValue (mul f x y) (unlike (is_negative x) t) (num x * 2 ^ i) (den x * 2 ^ j)
 mul_power_exact f x y t i j p q v h k =
     rw (mul_rounds f x y (is_negative x) (num x) (den x) t (2 ^ i) (2 ^ j) (den_pos x) (pow_pos j) (own_fraction x q) v) (round_scaled f (unlike (is_negative x) t) x i j p q h k)
+
+pub div_power_exact : (f : Format) (x y : Float) (t : Bool) (i j : ℕ) → T (fits f x) → T (finite x) → HasValue y t (2 ^ j) (2 ^ i)
+    → den x * 2 ^ j ≤ 2 ^ low f * 2 ^ i → num x * 2 ^ i < 2 ^ suc (emax f) * (den x * 2 ^ j) → HasValue (div f x y) (unlike (is_negative x) t) (num x * 2 ^ i) (den x * 2 ^ j)
+div_power_exact f x y t i j p q v h k =
+    rw (div_rounds f x y (is_negative x) (num x) (den x) t (2 ^ j) (2 ^ i) (den_pos x) (pow_pos i) (pow_pos j) (own_fraction x q) v, mul_comm (2 ^ j) (den x))
+    (round_scaled f (unlike (is_negative x) t) x i j p q h k)
 
 -- ---- the remainder
 
@@ -190,6 +243,12 @@ module _ (f : Format) (x y : Float) (p : T (fits f x)) (q : T (fits f y)) (h : T
   pub rem_value : HasValue (rem f x y) (is_negative x) (num x * den y % (num y * den x)) (den x * den y)
   rem_value = rem_exact f x y (is_negative x) (num x * den y) (is_negative y) (num y * den x) (den x * den y) p q both_pos divisor_pos left right
 
+  pub rem_finite : T (finite (rem f x y))
+  rem_finite = value_finite (rem f x y) (is_negative x) (num x * den y % (num y * den x)) (den x * den y) rem_value
+
+  pub rem_sign : is_negative (rem f x y) ≡ is_negative x
+  rem_sign = value_sign (rem f x y) (is_negative x) (num x * den y % (num y * den x)) (den x * den y) rem_value
+
   size : HasValue (abs (rem f x y)) false (num x * den y % (num y * den x)) (den x * den y)
   size = value_abs (rem f x y) (is_negative x) (num x * den y % (num y * den x)) (den x * den y) rem_value
 
@@ -198,3 +257,9 @@ module _ (f : Format) (x y : Float) (p : T (fits f x)) (q : T (fits f y)) (h : T
       let c = den x * den y in
       let l : num x * den y % (num y * den x) * c < num y * den x * c = mul-lt-mul_of_pos_right (mod-lt (num x * den y) divisor_pos) both_pos in
       lt_of_fractions (abs (rem f x y)) (abs y) false (num x * den y % (num y * den x)) c false (num y * den x) c both_pos both_pos size (value_abs y (is_negative y) (num y * den x) c right) (omega arith)
+
+  pub rem_at_most : T (le (abs (rem f x y)) (abs x))
+  rem_at_most =
+      let c = den x * den y in
+      let l : num x * den y % (num y * den x) * c ≤ num x * den y * c = mul-le-mul_right c (mod-le (num x * den y) (num y * den x)) in
+      le_of_fractions (abs (rem f x y)) (abs x) false (num x * den y % (num y * den x)) c false (num x * den y) c both_pos both_pos size (value_abs x (is_negative x) (num x * den y) c left) (omega arith)

@@ -182,6 +182,12 @@ greatest_only nan h = elim h [ ]
 greatest_only (inf true) h = elim h [ ]
 greatest_only (fin _ _ _) h = elim h [ ]
 
+pub lt_inf : (x : Float) → T (finite x) → T (lt x (inf false)) × T (lt (inf true) x)
+unfolding lt
+lt_inf (fin s m e) p = (tt, tt)
+lt_inf nan p = elim p [ ]
+lt_inf (inf _) p = elim p [ ]
+
 -- ---- the order is total
 
 finite_lt_not_le : (x y : Float) → T (finite x) → T (finite y) → lt x y ≡ not (le y x)
@@ -261,6 +267,9 @@ lt_trans x y z h k = lt_le_trans x y z h (lt→le y z k)
 pub lt_irrefl : (x : Float) → T (lt x x) → ⊥
 lt_irrefl x h = lt_excludes x x h (lt→le x x h)
 
+pub lt_asym : (x y : Float) → T (lt x y) → T (lt y x) → ⊥
+lt_asym x y h k = lt_excludes x y h (lt→le y x k)
+
 -- ---- equal values
 
 pub float_le_antisymm : (x y : Float) → T (le x y) → T (le y x) → T (eq x y)
@@ -290,6 +299,19 @@ eq_sym x y h = float_le_antisymm y x (eq→ge x y h) (eq→le x y h)
 
 pub eq_trans : (x y z : Float) → T (eq x y) → T (eq y z) → T (eq x z)
 eq_trans x y z h k = float_le_antisymm x z (float_le_trans x y z (eq→le x y h) (eq→le y z k)) (float_le_trans z y x (eq→ge y z k) (eq→ge x y h))
+
+-- a comparison does not tell equal values apart
+pub le_respects_eq : (x x' y y' : Float) → T (eq x x') → T (eq y y') → le x y ≡ le x' y'
+le_respects_eq x x' y y' h k =
+    same_test (le x y) (le x' y')
+    (λ l. float_le_trans x' x y' (eq→ge x x' h) (float_le_trans x y y' l (eq→le y y' k)))
+    (λ l. float_le_trans x x' y (eq→le x x' h) (float_le_trans x' y' y l (eq→ge y y' k)))
+
+pub lt_respects_eq : (x x' y y' : Float) → T (eq x x') → T (eq y y') → lt x y ≡ lt x' y'
+lt_respects_eq x x' y y' h k =
+    lt_not_le x y (eq_numbers x x' h).0 (eq_numbers y y' k).0
+    ∙ ap not (le_respects_eq y y' x x' k h)
+    ∙ sym (lt_not_le x' y' (eq_numbers x x' h).1 (eq_numbers y y' k).1)
 
 -- ---- zero, and signs
 
@@ -410,6 +432,9 @@ neg_le x y h =
     let p = (le_numbers x y h).0 in
     let q = (le_numbers x y h).1 in
     subst T (le_not_lt x y p q ∙ ap not (sym (lt_neg x y)) ∙ sym (le_not_lt (neg y) (neg x) (subst T (sym (neg_number y)) q) (subst T (sym (neg_number x)) p))) h
+
+pub neg_eq : (x y : Float) → T (eq x y) → T (eq (neg x) (neg y))
+neg_eq x y h = float_le_antisymm (neg x) (neg y) (neg_le y x (eq→ge x y h)) (neg_le x y (eq→le x y h))
 
 pub le_neg : (x y : Float) → le (neg x) (neg y) ≡ le y x
 le_neg x y = same_test (le (neg x) (neg y)) (le y x) (λ h. rw (neg_neg, neg_neg) at (neg_le (neg x) (neg y) h)) (neg_le y x)

@@ -1,6 +1,6 @@
 -- Products and quotients of any format: when they are numbers, their sign, and that their size grows with the factors and shrinks as the divisor grows.
 -- So they keep bounds and the order. Assumes nothing.
-use Rattle.std.proofs.Common.{◌≡◌, ℕ, zero, suc, ◌*◌, ◌<◌, ◌≤◌, Bool, true, false, cond, not, ◌&&◌, ◌||◌, T, eqb, ◌⊎◌, ℤ, pos, sym, refl, ap, ◌∙◌, subst, ap₂, inl, inr, ⊎_elim, le_trans, le_of_eq, lt_of_lt_of_le, zero-lt-suc, mul_assoc, mul_comm as times_comm, mul-le-mul, mul-pos, zero-mul, mul-one as times_one, mul_left_comm, arith, eqb→eq}
+use Rattle.std.proofs.Common.{◌≡◌, ℕ, zero, suc, ◌*◌, ◌<◌, ◌≤◌, Bool, true, false, cond, not, ◌&&◌, ◌||◌, T, eqb, ◌⊎◌, ℤ, pos, sym, refl, ap, ◌∙◌, subst, ap₂, inl, inr, ⊎_elim, le_trans, le_of_eq, lt_of_lt_of_le, zero-lt-suc, mul_assoc, mul_comm as times_comm, mul-le-mul, mul-pos, zero-mul, mul-one as times_one, mul_left_comm, arith, eqb→eq, T_not}
 use native.Mathlib.Nat.{eq_of_mul-eq-mul_right, mul-mul-mul_comm}
 use mathlib.Core.Bool.{beq}
 use lib.Dec.{not_T}
@@ -192,6 +192,22 @@ mul_neg_right f x y = float_mul_comm f x (neg y) ∙ mul_neg f y x ∙ ap neg (f
 pub neg_square : (f : Format) (x : Float) → mul f (neg x) (neg x) ≡ mul f x x
 neg_square f x = mul_neg f x (neg x) ∙ ap neg (mul_neg_right f x x) ∙ Order.neg_neg (mul f x x)
 
+pub div_neg : (f : Format) (x y : Float) → div f (neg x) y ≡ neg (div f x y)
+unfolding div neg
+div_neg f nan y = refl
+div_neg f (inf s) nan = refl
+div_neg f (inf s) (inf t) = refl
+div_neg f (inf s) (fin t n d) = ap inf (unlike_not s t)
+div_neg f (fin s m e) nan = refl
+div_neg f (fin s m e) (inf t) = ap (λ (b : Bool). fin b 0 (pos 0)) (unlike_not s t)
+div_neg f (fin s m e) (fin t n d) =
+    ap (λ (u : Bool). cond (eqb n 0) (cond (eqb m 0) nan (inf u)) (round f u (m * up e * down d) (n * up d * down e))) (unlike_not s t) ∙ go (eqb n 0)
+  where
+    go : (b : Bool) → cond b (cond (eqb m 0) nan (inf (not (unlike s t)))) (round f (not (unlike s t)) (m * up e * down d) (n * up d * down e))
+        ≡ neg (cond b (cond (eqb m 0) nan (inf (unlike s t))) (round f (unlike s t) (m * up e * down d) (n * up d * down e)))
+    go true = neg_if (eqb m 0) (unlike s t)
+    go false = round_neg f (unlike s t) (m * up e * down d) (n * up d * down e)
+
 -- ---- zeros
 
 zero_is : (s : Bool) → T (eq (fin s 0 (pos 0)) +0)
@@ -357,6 +373,17 @@ positive_or_zero x h = go (is_negative x) refl
     go true e = inr (Order.float_le_antisymm x +0 (negative_below x e) h)
     go false e = inl e
 
+neg_number : (x : Float) → T (number x) → T (number (neg x))
+neg_number x p = subst T (sym (Order.neg_number x)) p
+
+nonneg_neg : (x : Float) → T (le x +0) → T (le +0 (neg x))
+unfolding neg
+nonneg_neg x h = Order.float_le_trans +0 -0 (neg x) (Order.eq→ge -0 +0 Order.zeros_equal) (Order.neg_le x +0 h)
+
+nonpos_neg : (x : Float) → T (le +0 (neg x)) → T (le x +0)
+unfolding neg
+nonpos_neg x h = Order.float_le_trans x -0 +0 (rw Order.neg_neg at (Order.neg_le +0 (neg x) h)) (Order.eq→le -0 +0 Order.zeros_equal)
+
 -- a zero has no size
 abs_zero : (x : Float) → T (eq x +0) → T (le (abs x) +0)
 unfolding neg
@@ -367,6 +394,12 @@ unfolding neg
 zero_of_abs x h =
     let r = (Order.abs_le x +0).0 h in
     Order.float_le_antisymm x +0 r.1 (Order.float_le_trans +0 -0 x (Order.eq→ge -0 +0 Order.zeros_equal) r.0)
+
+pub abs_nonzero : (x : Float) → T (lt +0 (abs x)) → T (not (eq x +0))
+abs_nonzero x h = not_T (eq x +0) (λ z. Order.lt_excludes +0 (abs x) h (abs_zero x z))
+
+pub nonzero_abs : (x : Float) → T (number x) → T (not (eq x +0)) → T (lt +0 (abs x))
+nonzero_abs x p z = Order.lt_by +0 (abs x) (Order.finite→number +0 tt) (subst T (sym (Order.abs_number x)) p) (λ h. T_not (eq x +0) z (zero_of_abs x h))
 
 -- what is at least zero is its own size
 abs_nonneg : (x : Float) → T (le +0 x) → T (le (abs x) x)
@@ -403,6 +436,9 @@ mul_nonneg f x y h k p = ⊎_elim (λ e. ⊎_elim (λ e'. both e e') (λ z. Orde
     both : is_negative x ≡ false → is_negative y ≡ false → T (le +0 (mul f x y))
     both e e' = positive_above (mul f x y) p (mul_sign f x y p ∙ ap₂ unlike e e')
 
+pub mul_nonpos : (f : Format) (x y : Float) → T (le x +0) → T (le +0 y) → T (number (mul f x y)) → T (le (mul f x y) +0)
+mul_nonpos f x y h k p = nonpos_neg (mul f x y) (rw (mul_neg f x y) at (mul_nonneg f (neg x) y (nonneg_neg x h) k (rw (mul_neg f x y) (neg_number (mul f x y) p))))
+
 pub square_number : (f : Format) (x : Float) → T (number x) → T (number (mul f x x))
 unfolding mul is_nan
 square_number f (inf s) p = tt
@@ -422,6 +458,9 @@ above_sign x h = go (is_negative x) refl
 pub div_nonneg : (f : Format) (x y : Float) → T (le +0 x) → T (lt +0 y) → T (number (div f x y)) → T (le +0 (div f x y))
 div_nonneg f x y h k p = ⊎_elim (λ e. positive_above (div f x y) p (div_sign f x y p ∙ ap₂ unlike e (above_sign y k))) (λ z. Order.eq→ge (div f x y) +0 (div_zero f x y z p)) (positive_or_zero x h)
 
+pub div_nonpos : (f : Format) (x y : Float) → T (le x +0) → T (lt +0 y) → T (number (div f x y)) → T (le (div f x y) +0)
+div_nonpos f x y h k p = nonpos_neg (div f x y) (rw (div_neg f x y) at (div_nonneg f (neg x) y (nonneg_neg x h) k (rw (div_neg f x y) (neg_number (div f x y) p))))
+
 -- ---- products keep the order
 
 pub mul_mono : (f : Format) (x y c : Float) → T (le +0 c) → T (le x y) → T (number (mul f x c)) → T (number (mul f y c)) → T (le (mul f x c) (mul f y c))
@@ -434,6 +473,12 @@ mul_mono f x y c h k p q = ⊎_elim positive zero (positive_or_zero c h)
 
     zero : T (eq c +0) → T (le (mul f x c) (mul f y c))
     zero e = zeros_le (mul f x c) (mul f y c) (mul_zero_right f x c e p) (mul_zero_right f y c e q)
+
+-- a factor that is not positive turns the order round
+pub mul_anti : (f : Format) (x y c : Float) → T (le c +0) → T (le x y) → T (number (mul f x c)) → T (number (mul f y c)) → T (le (mul f y c) (mul f x c))
+mul_anti f x y c h k p q =
+    subst T (Order.le_neg (mul f x c) (mul f y c))
+    (rw (mul_neg_right f x c, mul_neg_right f y c) at (mul_mono f x y (neg c) (nonneg_neg c h) k (rw (mul_neg_right f x c) (neg_number (mul f x c) p)) (rw (mul_neg_right f y c) (neg_number (mul f y c) q))))
 
 -- ---- quotients
 
@@ -496,7 +541,13 @@ pub div_size : (f : Format) (x y a b : Float) → T (le (abs x) a) → T (lt +0 
 div_size f x y a b h l k p q =
     Order.float_le_trans (abs (div f x y)) (abs (div f a b)) (div f a b) (div_sizes f x a y b (in_size x a h) (rw (positive_abs b (above_sign b l)) k) p q) (abs_nonneg (div f a b) (div_nonneg f a b (bound_nonneg x a h) l q))
 
--- so a quotient grows with its dividend, and as its divisor shrinks, where all are at least zero
+-- so a product grows with both factors, and a quotient with its dividend and as its divisor shrinks, where all of them are at least zero
+pub mul_mono_both : (f : Format) (x x' y y' : Float) → T (le +0 x) → T (le x x') → T (le +0 y) → T (le y y') → T (number (mul f x y))
+    → T (number (mul f x' y')) → T (le (mul f x y) (mul f x' y'))
+mul_mono_both f x x' y y' X h Y k p q =
+    Order.float_le_trans (mul f x y) (abs (mul f x y)) (mul f x' y') (Order.le_abs (mul f x y) p)
+    (mul_size f x y x' y' (Order.float_le_trans (abs x) x x' (abs_nonneg x X) h) (Order.float_le_trans (abs y) y y' (abs_nonneg y Y) k) p q)
+
 pub div_mono_both : (f : Format) (x x' y y' : Float) → T (le +0 x) → T (le x x') → T (lt +0 y') → T (le y' y) → T (number (div f x y))
     → T (number (div f x' y')) → T (le (div f x y) (div f x' y'))
 div_mono_both f x x' y y' X h Y k p q =
@@ -520,6 +571,26 @@ finite_factors f nan y h = elim h [ ]
 finite_factors f (inf s) nan h = elim h [ ]
 finite_factors f (inf s) (inf t) h = elim h [ ]
 finite_factors f (fin s m e) nan h = elim h [ ]
+
+pub finite_dividend : (f : Format) (x y : Float) → T (finite (div f x y)) → T (finite x)
+unfolding div
+finite_dividend f nan y h = h
+finite_dividend f (inf s) nan h = h
+finite_dividend f (inf s) (inf t) h = h
+finite_dividend f (inf s) (fin t n d) h = h
+finite_dividend f (fin s m e) y h = tt
+
+-- where a bound of the product is finite the product is, and so with quotients
+pub mul_finite : (f : Format) (x y a b : Float) → T (le (abs x) a) → T (le (abs y) b) → T (finite (mul f a b)) → T (finite (mul f x y))
+mul_finite f x y a b h k p =
+    let r = finite_factors f a b p in
+    Order.finite_of_abs (mul f x y) (mul f a b) p
+    (mul_size f x y a b h k (mul_number f x y (Order.finite_of_abs x a r.0 h) (Order.finite_of_abs y b r.1 k)) (Order.finite→number (mul f a b) p))
+
+pub div_finite : (f : Format) (x y a b : Float) → T (le (abs x) a) → T (lt +0 b) → T (le b (abs y)) → T (finite (div f a b)) → T (finite (div f x y))
+div_finite f x y a b h l k p =
+    Order.finite_of_abs (div f x y) (div f a b) p
+    (div_size f x y a b h l k (div_number f x y (Order.finite_of_abs x a (finite_dividend f a b p) h) (subst T (Order.abs_number y) (Order.le_numbers b (abs y) k).1) (abs_nonzero y (Order.lt_le_trans +0 b (abs y) l k))) (Order.finite→number (div f a b) p))
 
 -- A quotient by what is no smaller is at most 1.
 zero_over_zero : (f : Format) (x y : Float) → T (eq x +0) → T (eq y +0) → T (number (div f x y)) → ⊥
@@ -548,8 +619,13 @@ div_in_unit f x y h k l p = (
       (div_at_most_one f x y (Order.float_le_trans (abs x) x (abs y) (abs_nonneg x h) (Order.float_le_trans x y (abs y) k (Order.le_abs y (div_numbers f x y p).1))) p),
 )
 
--- A factor of at most 1 in size makes nothing larger.
+-- A factor of at most 1 in size, or a divisor of at least 1, makes nothing larger.
 pub mul_shrinks : (f : Format) (x c : Float) → T (fits f x) → T (le (abs c) +1) → T (number (mul f x c)) → T (le (abs (mul f x c)) (abs x))
 mul_shrinks f x c t h p =
     let q = (mul_numbers f x c p).0 in
     rw (mul-one f x t) at (mul_sizes f x x c +1 (own_size x q) (unfold abs in h) p (rw (mul-one f x t) q))
+
+pub div_shrinks : (f : Format) (x c : Float) → T (fits f x) → T (le +1 (abs c)) → T (number (div f x c)) → T (le (abs (div f x c)) (abs x))
+div_shrinks f x c t h p =
+    let q = (div_numbers f x c p).0 in
+    rw (div_one f x t) at (div_sizes f x x c +1 (own_size x q) (unfold abs in h) p (rw (div_one f x t) q))

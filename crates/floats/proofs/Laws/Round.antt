@@ -8,7 +8,7 @@ use lib.Ieee.{Float, nan, inf, fin, Format, prec, emax, low, up, down, size, odd
 use lib.Ieee.Bits.{is_true}
 use lib.Ieee.Digits.{back}
 use lib.Ieee.Exact.{HasValue, round_exact}
-use lib.Ieee.Fits.{up_pos, down_pos, and_l, and_r, round_is, round-fits, nan-fits, inf-fits}
+use lib.Ieee.Fits.{up_pos, down_pos, and_l, and_r, round_is, round-fits, nan-fits, inf-fits, neg-fits}
 use lib.Ieee.Nearest.{closest}
 use lib.Ieee.Order.{transfer, round_mono}
 use lib.Ieee.Positive.{num, den}
@@ -285,6 +285,9 @@ round_sign f s a c = (round_signed f s a c).1
 pub round_nonneg : (f : Format) (a c : ℕ) → T (le +0 (round f false a c))
 round_nonneg f a c = positive_above (round f false a c) (round_number f false a c) (rw (round_sign f false a c) tt)
 
+pub round_nonpos : (f : Format) (a c : ℕ) → T (le (round f true a c) -0)
+round_nonpos f a c = negative_below (round f true a c) (rw (round_sign f true a c) tt)
+
 -- a negative sign is below the other
 pub le_of_signs : (x y : Float) → T (number y) → is_negative x ≡ true → is_negative y ≡ false → T (le x y)
 le_of_signs x y p s t = Order.float_le_trans x -0 y (negative_below x (rw s tt)) (Order.float_le_trans -0 +0 y (eq→le -0 +0 zeros_equal) (positive_above y p (rw t tt)))
@@ -343,6 +346,10 @@ pub round_below : (f : Format) (a b : ℕ) (v : Float) (c d : ℕ) → 0 < b →
     → T (le (round f false a b) v)
 round_below f a b v c d B D p h k = round_at_most f false a b v false c d B D p h (omega arith)
 
+pub round_above : (f : Format) (a b : ℕ) (v : Float) (c d : ℕ) → 0 < b → 0 < d → T (fits f v) → HasValue v false c d → c * b ≤ a * d
+    → T (le v (round f false a b))
+round_above f a b v c d B D p h k = round_at_least f false a b v false c d B D p h (omega arith)
+
 -- A fraction no larger than a finite value of the format rounds to a finite value.
 pub finite_any_sign : (f : Format) (s : Bool) (a b : ℕ) → finite (round f s a b) ≡ finite (round f false a b)
 finite_any_sign f false a b = refl
@@ -389,6 +396,18 @@ convert_number f nan = refl
 convert_number f (inf s) = refl
 convert_number f (fin s m e) = unfold is_nan in is_true (number (round f s (m * up e) (down e))) (round_number f s (m * up e) (down e))
 
+pub convert_sign : (f : Format) (x : Float) → is_negative (convert f x) ≡ is_negative x
+unfolding convert is_negative
+convert_sign f nan = refl
+convert_sign f (inf s) = refl
+convert_sign f (fin s m e) = round_sign f s (m * up e) (down e)
+
+pub convert_neg : (f : Format) (x : Float) → convert f (neg x) ≡ neg (convert f x)
+unfolding convert neg
+convert_neg f nan = refl
+convert_neg f (inf s) = refl
+convert_neg f (fin s m e) = round_neg f s (m * up e) (down e)
+
 pub convert_mono : (f : Format) (x y : Float) → T (le x y) → T (le (convert f x) (convert f y))
 unfolding convert
 convert_mono f nan y h = absurd (subst T (nan_left y).2 h)
@@ -402,3 +421,18 @@ convert_mono f (fin s m e) (inf false) h = inf_greatest (round f s (m * up e) (d
 convert_mono f (fin s m e) (fin t n d) h =
     round_keeps_order f s (m * up e) (down e) t (n * up d) (down d) (down_pos e) (down_pos d)
     (fractions_of_le (fin s m e) (fin t n d) s (m * up e) (down e) t (n * up d) (down d) (refl, refl) (refl, refl) h)
+
+-- a value of the format that bounds x bounds what x is converted to
+pub convert_at_most : (f : Format) (x v : Float) → T (fits f v) → T (le x v) → T (le (convert f x) v)
+convert_at_most f x v p h = rw (convert_fits f v p) at (convert_mono f x v h)
+
+pub convert_at_least : (f : Format) (x v : Float) → T (fits f v) → T (le v x) → T (le v (convert f x))
+convert_at_least f x v p h = rw (convert_fits f v p) at (convert_mono f v x h)
+
+pub convert_size : (f : Format) (x v : Float) → T (fits f v) → T (le (abs x) v) → T (le (abs (convert f x)) v)
+convert_size f x v p h =
+    let r = (Order.abs_le x v).0 h in
+    (Order.abs_le (convert f x) v).1 (convert_at_least f x (neg v) (neg-fits f v p) r.0, convert_at_most f x v p r.1)
+
+pub convert_finite : (f : Format) (x v : Float) → T (fits f v) → T (finite v) → T (le (abs x) v) → T (finite (convert f x))
+convert_finite f x v p q h = Order.finite_of_abs (convert f x) v q (convert_size f x v p h)

@@ -1,13 +1,15 @@
--- sinf and cosf: a NaN gives a NaN, and there is one form for two that the definitions choose between by a comparison. Assumes nothing.
-use Rattle.std.proofs.Common.{◌≡◌, Bool, true, false, cond, not, T, ◌⊎◌, sym, refl, ap, ◌∙◌, subst, inl, inr, ⊎_elim}
-use lib.Ieee.{Float, nan, inf, fin, Format, fits, is_nan, of_bits, to_bits, lt, le, eq, add, sub, mul, neg}
-use lib.Ieee.Bits.{is_true}
-use lib.Ieee.Fits.{neg-fits}
+-- sinf and cosf: what they give for a NaN, the infinities and the zeros, that each result is an `f32`, results of libm, and one form for two that the
+-- definitions choose between by a comparison. Assumes nothing.
+use Rattle.std.proofs.Common.{◌≡◌, ℕ, Bool, true, false, cond, not, T, ◌⊎◌, List, [], ◌∷◌, map, pos, sym, refl, ap, ◌∙◌, subst, inl, inr, ⊎_elim}
+use lib.Ieee.{Float, nan, inf, fin, Format, binary32, fits, is_nan, of_bits, to_bits, lt, le, eq, add, sub, mul, neg}
+use lib.Ieee.Bits.{is_true, of_bits-fits}
+use lib.Ieee.Fits.{neg-fits, cond-fits}
+use Rattle.floats.specs.Ops.{f32}
 use Rattle.floats.specs.Compare.{abs, is_negative}
 use Rattle.floats.specs.Narrow.{convert}
-use Rattle.floats.specs.SinCos.{k_sinf, k_cosf, by_quadrant, quadrant, rem_pio2f, sinf_reduced, sinf, cosf_reduced, cosf}
+use Rattle.floats.specs.SinCos.{k_sinf, k_cosf, by_quadrant, quadrant, rem_pio2f, sinf_near, sinf_far, sinf_reduced, sinf, cosf_near, cosf_far, cosf_reduced, cosf}
 use Rattle.floats.proofs.Laws.Order.{number, +0, -0, le_or_lt, lt_not_le, float_le_antisymm, float_le_trans, eq→le, zeros_equal, eq→same, positive_above, negative_below, neg_neg}
-use Rattle.floats.proofs.Laws.Round.{zero_fits}
+use Rattle.floats.proofs.Laws.Round.{zero_fits, convert_in_format}
 use Rattle.floats.proofs.Laws.Sum.{float_add_comm, add-zero}
 
 -- ---- a NaN
@@ -68,3 +70,61 @@ module _ (f g : Format) (x a : Float) (good : fits g x ≡ true) (q : T (fits f 
   pub size_less_angle : T (not (eq (neg a) +0)) → cond (lt x +0) (sub f (neg x) a) (sub f x a) ≡ sub f (abs x) a
   size_less_angle n =
       ⊎_elim (λ e. flipped_less f a x (lt x +0) ∙ ap (λ (y : Float). sub f y a) (sym e)) (λ e. rw e (zero_less n)) (by_comparison g x (subst T (sym good) tt))
+
+-- ---- the infinities and the zeros
+pub sinf_inf : (s : Bool) → sinf (inf s) ≡ nan
+unfolding sinf sinf_reduced by_quadrant quadrant rem_pio2f k_sinf k_cosf convert of_bits to_bits abs lt eq le add sub mul neg
+sinf_inf true = refl
+sinf_inf false = refl
+
+pub cosf_inf : (s : Bool) → cosf (inf s) ≡ nan
+unfolding cosf cosf_reduced by_quadrant quadrant rem_pio2f k_sinf k_cosf convert of_bits to_bits abs lt eq le add sub mul neg
+cosf_inf true = refl
+cosf_inf false = refl
+
+pub sinf_zero : (s : Bool) → sinf (fin s 0 (pos 0)) ≡ fin s 0 (pos 0)
+unfolding sinf of_bits abs lt eq le
+sinf_zero s = refl
+
+pub cosf_zero : (s : Bool) → cosf (fin s 0 (pos 0)) ≡ fin false 1 (pos 0)
+unfolding cosf of_bits abs lt eq le
+cosf_zero s = refl
+
+-- ---- each result is an `f32`
+k_sinf_fits : (x : Float) → T (fits binary32 (k_sinf x))
+unfolding k_sinf
+k_sinf_fits x = convert_in_format binary32 _
+
+k_cosf_fits : (x : Float) → T (fits binary32 (k_cosf x))
+unfolding k_cosf
+k_cosf_fits x = convert_in_format binary32 _
+
+ruleset in_format = (cond-fits, neg-fits, of_bits-fits, k_sinf_fits, k_cosf_fits)
+
+pub sinf_fits : (x : Float) → T (fits binary32 x) → T (fits binary32 (sinf x))
+unfolding sinf sinf_near sinf_far sinf_reduced by_quadrant
+sinf_fits x p = search in_format depth 9
+
+pub cosf_fits : (x : Float) → T (fits binary32 (cosf x))
+unfolding cosf cosf_near cosf_far cosf_reduced by_quadrant
+cosf_fits x = search in_format depth 9
+
+-- ---- results of libm, some in each range, as patterns: x, sinf x, cosf x
+abbrev pub rows : List (ℕ × ℕ × ℕ)
+rows =
+    (0x3F00_0000, 0x3EF5_7744, 0x3F60_A940)
+    ∷ (0x3F80_0000, 0x3F57_6AA4, 0x3F0A_5140)
+    ∷ (0x4049_0FDB, 0xB3BB_BD2E, 0xBF80_0000)
+    ∷ (0x42C8_0000, 0xBF01_A12E, 0x3F5C_C0EE)
+    ∷ (0x4480_0000, 0xBE22_5693, 0x3F7C_C335)
+    ∷ (0x38D1_B717, 0x38D1_B717, 0x3F80_0000)
+    ∷ (0xC000_0000, 0xBF68_C7B7, 0xBED5_1133)
+    ∷ (0xC040_0000, 0xBE10_81C3, 0xBF7D_7026)
+    ∷ (0x40A0_0000, 0xBF75_7C10, 0x3E91_3C2C)
+    ∷ (0xC0D0_0000, 0xBE5C_486A, 0x3F7A_01A6)
+    ∷ (0x40F0_0000, 0x3F70_20C4, 0x3EB1_7A2F)
+    ∷ []
+
+pub known_results : map (λ (r : ℕ × ℕ × ℕ). (r.0, to_bits binary32 (sinf (f32 r.0)), to_bits binary32 (cosf (f32 r.0)))) rows ≡ rows
+unfolding sinf sinf_near sinf_far sinf_reduced cosf cosf_near cosf_far cosf_reduced by_quadrant quadrant rem_pio2f k_sinf k_cosf convert of_bits to_bits abs lt eq le add sub mul neg
+known_results = refl

@@ -1,6 +1,6 @@
 -- The patterns of sizes stand in the order of the sizes, over any format, and a NaN's pattern is above them all: so a size is compared by its pattern.
 -- Assumes nothing.
-use Rattle.std.proofs.Common.{◌≡◌, ℕ, ◌+◌, ◌-◌, ◌*◌, ◌/◌, ◌%◌, ◌^◌, ◌<◌, ◌≤◌, Bool, true, false, cond, not, T, eqb, ltb, leb, ℤ, sym, ap, ◌∙◌, subst, ⊎_elim, zero-le, le_trans, le_of_eq, le_refl as ℕLeRefl, lt_of_lt_of_le, lt_of_le_of_lt, le_of_lt, add-le-add, mul-le-mul_right, mod-lt, mod-eq_of_lt, suc-mul, le_antisymm, eq-or-lt_of_le, le-div_iff_mul-le, zero-add, mul_right_comm, not-le_of_lt, arith, lit<, le→leb, eqb→eq, ltb→lt, lt→ltb, leb→le, pow_pos, pow-add, ltb-false, le-ltb, lt-ltb, eq-eqb, ne_eqb, le-leb}
+use Rattle.std.proofs.Common.{◌≡◌, ℕ, ◌+◌, ◌-◌, ◌*◌, ◌/◌, ◌%◌, ◌^◌, ◌<◌, ◌≤◌, Bool, true, false, cond, not, T, eqb, ltb, leb, ℤ, sym, ap, ◌∙◌, subst, ⊎_elim, zero-le, le_trans, le_of_eq, le_refl, lt_of_lt_of_le, lt_of_le_of_lt, le_of_lt, add-le-add, mul-le-mul_right, mod-lt, mod-eq_of_lt, suc-mul, le_antisymm, eq-or-lt_of_le, le-div_iff_mul-le, zero-add, mul_right_comm, not-le_of_lt, arith, lit<, le→leb, eqb→eq, ltb→lt, lt→ltb, leb→le, pow_pos, pow-add, ltb-false, le-ltb, lt-ltb, eq-eqb, ne_eqb, le-leb}
 use lib.Pow.{shr_mono}
 use lib.Ieee.{Float, nan, inf, fin, Format, binary32, binary64, prec, low, up, down, size, hid, ones, top, fits, is_nan, neg, le, lt, eq, nan_bits, of_bits, to_bits}
 use lib.Ieee.Bits.{of_bits-to_bits, to_bits-of_bits, of_bits-fits, nan_bits_is, nan_bits_above, is_false}
@@ -38,7 +38,7 @@ pattern_mono p m n P h = ⊎_elim same more (eq-or-lt_of_le (sizes (size m) (siz
     sizes y z l = omega arith
 
     same : dropped p m ≡ dropped p n → pattern p m ≤ pattern p n
-    same e = rw e (add-le-add (ℕLeRefl (dropped p n * 2 ^ (p - 1))) (shr_mono (dropped p n) h))
+    same e = rw e (add-le-add (le_refl (dropped p n * 2 ^ (p - 1))) (shr_mono (dropped p n) h))
 
     over : (j k w a b : ℕ) → j < k → a < 2 * w → w ≤ b → j * w + a ≤ k * w + b
     over j k w a b l l' l'' = omega (arith, mul-le-mul_right w l, suc-mul j w)
@@ -76,7 +76,7 @@ cross m e n d h = omega (arith, (le_iff (fin false m e) (fin false n d) tt tt).0
 
 pattern_of_le : (f : Format) (x y : Float) → T (fits f x) → T (fits f y) → T (le (abs x) (abs y)) → to_bits f (abs x) ≤ to_bits f (abs y)
 unfolding abs to_bits lt eq le is_nan
-pattern_of_le f (inf s) (inf t) p q h = ℕLeRefl (0 + ones f * hid f)
+pattern_of_le f (inf s) (inf t) p q h = le_refl (0 + ones f * hid f)
 pattern_of_le f (fin s m e) (inf t) p q h = le_trans (up_to_infinite f (fin s m e) p tt) (le_of_eq (sym (zero-add (ones f * hid f))))
 pattern_of_le f (fin s m e) (fin t n d) p q h = finite_mono f m e n d (cross m e n d h)
 pattern_of_le f nan y p q h = elim h [ ]

@@ -6,6 +6,7 @@ pub mod Rounding
 pub mod Bounds
 pub mod Values
 pub mod Special
+pub mod Signs
 pub mod Digits
 pub mod Leading
 pub mod Nearest
@@ -26,6 +27,7 @@ use Rattle.floats.proofs.Laws.Round.{round_of_value}
 use Rattle.floats.proofs.Laws.Sqrt.Values.{le_antisymm_positive}
 use Rattle.floats.proofs.Laws.Sqrt.Nearest.{nearest, root_positive, nearest_unique}
 use Rattle.floats.proofs.Laws.Sqrt.Special.{root_of_fits, root_of_sign, root_of_nonneg, sqrt_positive, AtLeastZero, equals_zero, above_zero, infinite, AgainstZero, not_a_number, below_zero, at_least_zero, against_zero, not_below_zero, zero_not_above, positive_of_above, above_of_lt, lt_of_above, above_of_positive}
+use Rattle.floats.proofs.Laws.Sqrt.Signs.{unsigned, root_unsigned}
 pub use Rattle.floats.proofs.Laws.Sqrt.WholeRoot.{IsRoot, whole_root_is, whole_root_unique}
 pub use Rattle.floats.proofs.Laws.Sqrt.Special.{sqrt_fits, sqrt_nan, sqrt_zero, sqrt_infinity, sqrt_below_zero}
 
@@ -78,6 +80,9 @@ sqrt_exact f x y p q y_fits e =
     le_antisymm_positive f (sqrt f x) y fit y_fits (between y (sqrt f x) y q q above below) q below above
 
 -- ---- what a root is
+pub sqrt_unsigned : (f : Format) (x : Float) → T (positive x) → T (unsigned (sqrt f x))
+sqrt_unsigned f x p = subst (λ (z : Float). T (unsigned z)) (sym (sqrt_positive f x p)) (root_unsigned f (num x) (den x) (den_pos x))
+
 at_least_plus_zero : (f : Format) (x : Float) → T (positive x) → T (le zero (sqrt f x))
 at_least_plus_zero f x p = subst (λ (z : Float). T (le zero z)) (sym (sqrt_positive f x p)) (root_of_nonneg f (num x) (den x) (den_pos x))
 

@@ -9,8 +9,8 @@ use lib.Ieee.Bits.{is_false}
 use lib.Ieee.Scale.{finite}
 use lib.Ieee.Positive.{num, den, den_pos}
 use Rattle.floats.specs.Compare.{abs, is_negative}
-use Rattle.floats.proofs.Laws.Order.{over, under, number, finite→number, +0, -0, zeros_equal, fraction_order, le_iff, le_numbers, same_test, nan_right, lt_numbers, lt_excludes, le_or_lt, lt_le_trans, float_le_refl, float_le_trans, float_le_antisymm, eq_numbers, eq_refl, eq_sym, eq→le, eq→ge, eq→same_nonzero, inf_least, inf_greatest, greatest_only, neg_number, neg_finite, neg_neg, neg_le, abs_above_zero, abs_le, finite_of_abs}
-use Rattle.floats.proofs.Laws.Round.{own_fraction, lt_of_fractions, up_power, down_power, mul_power, power_multiple, fits→holds, round_number, round_neg, round_keeps_order, round_of_value, round_zero}
+use Rattle.floats.proofs.Laws.Order.{over, under, number, finite→number, +0, -0, zeros_equal, fraction_order, le_iff, le_numbers, same_test, nan_right, lt_numbers, lt_excludes, le_or_lt, lt_le_trans, lt_respects_eq, float_le_refl, float_le_trans, float_le_antisymm, eq_numbers, eq_refl, eq_sym, eq→le, eq→ge, eq→same_nonzero, inf_least, inf_greatest, greatest_only, neg_nan, neg_number, neg_finite, lt_neg, neg_neg, neg_le, abs_neg, abs_above_zero, abs_le, finite_of_abs}
+use Rattle.floats.proofs.Laws.Round.{own_fraction, lt_of_fractions, up_power, down_power, mul_power, power_multiple, fits→holds, round_number, round_neg, round_keeps_order, round_of_value, zero_fits, round_zero}
 
 -- ---- a sum as one rounded fraction
 
@@ -120,6 +120,10 @@ add_nan f (fin s m e) nan = refl
 add_nan f (fin s m e) (inf t) = refl
 add_nan f (fin s m e) (fin t n d) = is_false (is_nan (add f (fin s m e) (fin t n d))) (add_finite_number f (fin s m e) (fin t n d) tt tt)
 
+pub sub_nan : (f : Format) (x y : Float) → is_nan (sub f x y) ≡ (is_nan x || is_nan y || opposed x (neg y))
+unfolding sub
+sub_nan f x y = add_nan f x (neg y) ∙ ap (λ (b : Bool). is_nan x || b || opposed x (neg y)) (neg_nan y)
+
 pub add_number : (f : Format) (x y : Float) → T (finite x) → T (number y) → T (number (add f x y))
 unfolding add is_nan
 add_number f (fin s m e) (inf t) p q = tt
@@ -127,6 +131,13 @@ add_number f (fin s m e) (fin t n d) p q = add_finite_number f (fin s m e) (fin 
 add_number f nan y p q = elim p [ ]
 add_number f (inf _) y p q = elim p [ ]
 add_number f (fin s m e) nan p q = elim q [ ]
+
+pub sub_number : (f : Format) (x y : Float) → T (finite x) → T (number y) → T (number (sub f x y))
+unfolding sub
+sub_number f x y p q = add_number f x (neg y) p (subst T (sym (neg_number y)) q)
+
+pub add_number_of : (f : Format) (x y : Float) → T (number x) → T (number y) → T (not (opposed x y)) → T (number (add f x y))
+add_number_of f x y p q r = rw (add_nan f x y, is_false (is_nan x) p, is_false (is_nan y) q) r
 
 pub add_numbers : (f : Format) (x y : Float) → T (number (add f x y)) → T (number x) × T (number y)
 unfolding add is_nan
@@ -352,6 +363,16 @@ sub_self f (fin s m e) p =
 sub_self f nan p = elim p [ ]
 sub_self f (inf _) p = elim p [ ]
 
+pub sub_equal : (f : Format) (x y : Float) → T (finite x) → T (eq x y) → T (eq (sub f x y) +0)
+unfolding sub neg is_negative eq
+sub_equal f (fin s m e) (fin t n d) p h =
+    add_eq_value f (fin s m e) (fin (not t) n d) +0 tt tt tt (zero_fits f false)
+    (rw ((flip t (n * up d)).0, (flip t (n * up d)).1) (omega (arith, (fraction_order (fin s m e) (fin t n d) tt tt).1.0 h)))
+sub_equal f nan y p h = elim p [ ]
+sub_equal f (inf _) y p h = elim p [ ]
+sub_equal f (fin s m e) nan p h = elim h [ ]
+sub_equal f (fin s m e) (inf _) p h = elim h [ ]
+
 -- ---- the sign of a sum and of a difference
 
 pub add_nonneg_number : (f : Format) (x y : Float) → T (le +0 x) → T (le +0 y) → T (number (add f x y))
@@ -382,6 +403,10 @@ add_le f x y t h n =
 pub neg_nonneg : (x : Float) → T (le +0 x) → T (le (neg x) +0)
 unfolding neg
 neg_nonneg x h = float_le_trans (neg x) -0 +0 (neg_le +0 x h) (eq→le -0 +0 zeros_equal)
+
+pub sub_le : (f : Format) (x y : Float) → T (fits f x) → T (le +0 y) → T (number (sub f x y)) → T (le (sub f x y) x)
+unfolding sub
+sub_le f x y t h n = add_le f x (neg y) t (neg_nonneg y h) n
 
 pub sub_nonneg : (f : Format) (x y : Float) → T (le y x) → T (number (sub f x y)) → T (le +0 (sub f x y))
 unfolding le sub neg is_nan add
@@ -466,6 +491,12 @@ sub_above_zero f x y t r n =
     (λ h. ⊎_elim (λ l. absurd (lt_excludes +0 (sub f x y) h (sub_nonpos f x y l n))) (λ l. l) (le_or_lt x y p.0 p.1))
     (sub_pos f x y t r)
 
+pub sub_below_zero : (f : Format) (x y : Float) → T (fits f x) → T (fits f y) → T (number (sub f x y)) → lt (sub f x y) +0 ≡ lt x y
+unfolding neg
+sub_below_zero f x y t r n =
+    let e = neg_sub f x y n in
+    sym (lt_neg +0 (sub f x y)) ∙ lt_respects_eq -0 +0 (neg (sub f x y)) (sub f y x) zeros_equal e ∙ sub_above_zero f y x r t (eq_numbers (neg (sub f x y)) (sub f y x) e).1
+
 -- ---- the size of a sum
 
 pub add_size : (f : Format) (x y a b : Float) → T (le (abs x) a) → T (le (abs y) b) → T (number (add f x y)) → T (le (abs (add f x y)) (add f a b))
@@ -479,6 +510,10 @@ add_size f x y a b h k n =
       add_mono f x a y b ((abs_le x a).0 h).1 ((abs_le y b).0 k).1 n m,
     )
 
+pub sub_size : (f : Format) (x y a b : Float) → T (le (abs x) a) → T (le (abs y) b) → T (number (sub f x y)) → T (le (abs (sub f x y)) (add f a b))
+unfolding sub
+sub_size f x y a b h k n = add_size f x (neg y) a b h (rw (abs_neg y) k) n
+
 pub finite_parts : (f : Format) (x y : Float) → T (finite (add f x y)) → T (finite x) × T (finite y)
 unfolding add
 finite_parts f (inf s) y p = absurd (rw (add_inf f s y (finite→number (add f (inf s) y) p)) at p)
@@ -491,3 +526,7 @@ pub add_finite : (f : Format) (x y a b : Float) → T (le (abs x) a) → T (le (
 add_finite f x y a b h k p =
     let q = finite_parts f a b p in
     finite_of_abs (add f x y) (add f a b) p (add_size f x y a b h k (add_finite_number f x y (finite_of_abs x a q.0 h) (finite_of_abs y b q.1 k)))
+
+pub sub_finite : (f : Format) (x y a b : Float) → T (le (abs x) a) → T (le (abs y) b) → T (finite (add f a b)) → T (finite (sub f x y))
+unfolding sub
+sub_finite f x y a b h k p = add_finite f x (neg y) a b h (rw (abs_neg y) k) p

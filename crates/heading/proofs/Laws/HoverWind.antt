@@ -1,4 +1,4 @@
--- Wind memory: what a priming leaves of it, when an update leaves all of it, and what holds of a fresh one and after each operation. Assumes nothing.
+-- Wind memory: what a priming leaves of it, when an update leaves all of it, and what holds of it from a fresh one on. Assumes nothing.
 use mathlib.Core.Path.{◌≡◌, ◌∙◌}
 use mathlib.Core.Bool.{true, false}
 use lib.Ieee.{Float, lt}
@@ -107,3 +107,15 @@ update_sound self dt config height state s a =
     cond_holds Sound (airborne self height state)
     (λ _. record { window = update_open self.estimator dt config state s.window a; ground = s.ground })
     (λ _. s)
+
+-- the memories that primings and updates with accepted time steps lead to
+pub data Reached : HoverWind → Type 0 where
+  start : Reached fresh
+  primed : {self : HoverWind} (height : Float) (state : VehicleState) → Reached self → Reached (prime self height state)
+  updated : {self : HoverWind} (dt : Float) (config : WindConfig) (height : Float) (state : VehicleState) → Accepted dt → Reached self
+      → Reached (update self dt config height state)
+
+pub reached_sound : {self : HoverWind} → Reached self → Sound self
+reached_sound start = fresh_sound
+reached_sound (primed {self} height state r) = prime_sound self height state (reached_sound r)
+reached_sound (updated {self} dt config height state a r) = update_sound self dt config height state (reached_sound r) a

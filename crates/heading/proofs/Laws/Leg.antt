@@ -19,6 +19,7 @@ use Rattle.heading.specs.declared.leg_heading.LegHeading.{LegHeading}
 use Rattle.heading.specs.declared.leg_heading.Turn.{Turn}
 use Rattle.heading.specs.declared.leg_heading.Bearing.{Bearing}
 use Rattle.heading.specs.declared.leg_heading.Yielded.{Yielded}
+use Rattle.heading.specs.Equality.{same_vector}
 use Rattle.heading.specs.LegHeading.{New, started, fresh, cleared, with_wind, on_leg, new_leg, bearing_of, bearing, may_yield, stuck_for, counted}
 use Rattle.heading.specs.LegHeading.{yielded, along_leg, wind_or_leg, here_of, wind_turn, uncommanded, finite_angle, target}
 use Rattle.heading.proofs.Laws.Equality.{vector_numbers, vector_same_itself, nan_vector_differs}
@@ -30,10 +31,14 @@ pub nan_position_off_leg : (leg : Leg) (position : Vec2) → vector_numbers posi
 unfolding on_leg
 nan_position_off_leg leg position = nan_vector_differs leg.to_m position
 
+-- one that equals the leg's is on it
+pub same_position_on_leg : (leg : Leg) (position : Vec2) → same_vector leg.to_m position ≡ true → on_leg leg position ≡ true
+unfolding on_leg
+same_position_on_leg leg position e = e
+
 -- the leg's own position, with no NaN in it, is
 pub own_position_on_leg : (leg : Leg) → vector_numbers leg.to_m ≡ true → on_leg leg leg.to_m ≡ true
-unfolding on_leg
-own_position_on_leg leg e = vector_same_itself leg.to_m ∙ e
+own_position_on_leg leg e = same_position_on_leg leg leg.to_m (vector_same_itself leg.to_m ∙ e)
 
 -- ---- which positions are new
 
@@ -96,6 +101,10 @@ pub record Call : Type 0 where
 -- with no finite commanded heading
 abbrev pub Uncommanded : Call → Type 0
 Uncommanded call = finite_angle call.commanded ≡ Nothing
+
+pub no_heading_uncommanded : finite_angle Nothing ≡ Nothing
+unfolding finite_angle
+no_heading_uncommanded = refl
 
 pub not_finite_uncommanded : (heading : Float) → finite heading ≡ false → finite_angle (Rad heading) ≡ Nothing
 unfolding finite_angle
@@ -178,6 +187,10 @@ module _ (config : HeadingConfig) (self : LegHeading) (call : Call) where
       unfolding cleared
       new_position_no_leg e =
           rw (call_leg, bearing_new self config call.position (here_of call.state) new, new_leg_none self config call.position (here_of call.state) e)
+
+    -- so does a call at a position with a NaN in it, which is always new
+    pub nan_position_as_cleared : vector_numbers call.position ≡ false → called config self call ≡ called config (cleared self) call
+    nan_position_as_cleared e = new_position_as_cleared (nan_position_new self.leg call.position e)
 
     -- on the leg it is kept
     pub call_on_leg : (leg : Leg) → self.leg ≡ legs.Flown leg → on_leg leg call.position ≡ true

@@ -1,5 +1,5 @@
--- The wind heading: the side once picked is kept, an estimate already weighed moves nothing, and one with a NaN in it is never one already weighed.
--- Assumes nothing.
+-- The wind heading: a fresh one has no side, the side once picked is kept, an estimate already weighed moves nothing, and one with a NaN in it is never
+-- one already weighed. Assumes nothing.
 use mathlib.Core.Path.{◌≡◌, refl}
 use mathlib.Core.Bool.{Bool, true, false, ◌&&◌}
 use lib.Ieee.{Float, lt}
@@ -11,12 +11,12 @@ use Rattle.math.proofs.Laws.Cases.{cond_holds}
 use Rattle.heading.specs.declared.HeadingConfig.{HeadingConfig}
 use Rattle.heading.specs.declared.Angle.TheVariants.{Nothing}
 use Rattle.heading.specs.declared.wind_heading.Side.{Side}
-use Rattle.heading.specs.declared.wind_heading.Side.TheVariants.{Picked}
+use Rattle.heading.specs.declared.wind_heading.Side.TheVariants.{Unpicked, Picked}
 use Rattle.heading.specs.declared.wind_heading.WindHeading.{WindHeading}
 use Rattle.heading.specs.declared.wind_heading.WindTurn.{WindTurn}
 use Rattle.heading.specs.declared.wind_heading.Wingtip.{Wingtip}
 use Rattle.heading.specs.Equality.{same_vector, same_matrix}
-use Rattle.heading.specs.WindHeading.{same_estimate, weighed_already, picked_side, known, wingtip, weigh, target}
+use Rattle.heading.specs.WindHeading.{fresh, same_estimate, weighed_already, picked_side, known, wingtip, weigh, target}
 use Rattle.heading.proofs.Laws.Equality.{fails_with, and_entails, vector_numbers, matrix_numbers, vector_same_itself, matrix_same_itself}
 use Rattle.heading.proofs.Laws.Equality.{same_vector_numbers, same_matrix_numbers}
 
@@ -48,12 +48,15 @@ nan_never_weighed_already filters.Nothing present e = refl
 nan_never_weighed_already (filters.Estimate last) present e = nan_estimate_differs last present e
 
 module _ (self : WindHeading) (config : HeadingConfig) (heading : Float) where
+  abbrev on : Bool
+  on = lt zero config.wind_heading_min_mps
+
   -- ---- an estimate already weighed
 
   -- with no estimate nothing moves
   pub no_estimate_moves_nothing : (target self config filters.Nothing heading).wind ≡ self
   unfolding target
-  no_estimate_moves_nothing = cond_holds (λ (t : WindTurn). t.wind ≡ self) (lt zero config.wind_heading_min_mps) (λ _. refl) (λ _. refl)
+  no_estimate_moves_nothing = cond_holds (λ (t : WindTurn). t.wind ≡ self) on (λ _. refl) (λ _. refl)
 
   module _ (present : WindEstimate) where
     -- what was weighed already counts as no estimate
@@ -64,6 +67,18 @@ module _ (self : WindHeading) (config : HeadingConfig) (heading : Float) where
 
     pub weighed_already_moves_nothing : weighed_already self.weighed present ≡ true → (target self config (filters.Estimate present) heading).wind ≡ self
     weighed_already_moves_nothing e = rw (weighed_already_skipped e) no_estimate_moves_nothing
+
+    -- while it is on, the answer is the target that is kept
+    pub weighed_already_answers_kept : weighed_already self.weighed present ≡ true → on ≡ true
+        → (target self config (filters.Estimate present) heading).target_rad ≡ self.target_rad
+    unfolding target
+    weighed_already_answers_kept e o = rw (o, e)
+
+    -- while it is on, an estimate with a NaN in it is weighed on every call
+    pub nan_weighed_again : estimate_numbers present ≡ false → on ≡ true
+        → target self config (filters.Estimate present) heading ≡ weigh self config present heading
+    unfolding target
+    nan_weighed_again e o = rw (o, nan_never_weighed_already self.weighed present e)
 
 -- an estimate of numbers is weighed once: the call after it moves nothing, whatever its configuration and heading
 pub weighed_once : (self : WindHeading) (config next : HeadingConfig) (heading later : Float) (present : WindEstimate) → estimate_numbers present ≡ true
@@ -79,6 +94,10 @@ unfolding target
 off_moves_nothing self config estimate heading e = rw e
 
 -- ---- the side
+
+pub fresh_unpicked : fresh.side ≡ Unpicked
+unfolding fresh
+fresh_unpicked = refl
 
 module _ (s : Float) where
   wingtip_keeps_side : (side : Side) (config : HeadingConfig) (present : WindEstimate) (heading : Float) → side ≡ Picked s

@@ -39,6 +39,10 @@ module _ (count dt : Float) (config : HeadingConfig) (heading : Float) (state : 
   unfolding stuck_for stuck
   counts_while_off_and_slow = refl
 
+  pub free_counts_zero : stuck config heading state ≡ false → stuck_for count dt config heading state ≡ zero
+  unfolding stuck_for
+  free_counts_zero e = rw e
+
 module _ (m : LegHeading) (dt : Float) (config : HeadingConfig) (heading : Float) (state : VehicleState) where
   -- with no yield time, or no finite heading
   pub yield_off : may_yield config state ≡ false → yielded m dt config heading state ≡ record { memory = m; yields = false }
@@ -81,13 +85,29 @@ abbrev pub handed : HeadingConfig → LegHeading → Call → LegHeading
 handed config self call = with_wind (leg_of config self call).memory (wind_of config self call).wind
 
 module _ (config : HeadingConfig) (self : LegHeading) (call : Call) (none : Uncommanded call) where
+  -- turned with the wind it is not counted
+  pub wind_turn_not_counted : (to : Float) → (wind_of config self call).target_rad ≡ Rad to → (called config self call).memory ≡ handed config self call
+  unfolding wind_or_leg
+  wind_turn_not_counted to e = rw (call_uncommanded config self call none, e)
+
   module _ (no_wind : (wind_of config self call).target_rad ≡ Nothing) where
     pub call_along_leg : called config self call
         ≡ along_leg (handed config self call) call.dt config call.heading (leg_of config self call).bearing_rad call.state
     unfolding wind_or_leg
     call_along_leg = rw (call_uncommanded config self call none, no_wind)
 
+    -- nor with no yield time, or no finite heading
+    pub yield_off_not_counted : may_yield config call.state ≡ false → (called config self call).memory ≡ handed config self call
+    unfolding along_leg
+    yield_off_not_counted e = rw (call_along_leg, yield_off (handed config self call) call.dt config call.heading call.state e)
+
     module _ (may : may_yield config call.state ≡ true) where
+      -- once yielding it is not counted, and the answer is the craft's own heading
+      pub yielding_answers_own_heading : (handed config self call).yielding ≡ true
+          → called config self call ≡ record { memory = handed config self call; heading_rad = call.state.heading_rad }
+      unfolding along_leg
+      yielding_answers_own_heading y = rw (call_along_leg, yielding_yields (handed config self call) call.dt config call.heading call.state may y)
+
       -- A call that leaves it yielding answers the craft's own heading, also where this call's count starts the yielding.
       pub yields_own_heading : (called config self call).memory.yielding ≡ true → (called config self call).heading_rad ≡ call.state.heading_rad
       unfolding along_leg
@@ -140,6 +160,11 @@ module _ (config : HeadingConfig) (leg : Leg) where
         (leg_of config self call).bearing_rad call.state
         handed_yielding) in
         record { flown = call_on_leg config self call next.uncommanded leg y.flown next.on; yields = stays }
+
+    -- where the wind gives no heading, the answer is the craft's own
+    pub yielding_leg_answers_own_heading : (wind_of config self next.call).target_rad ≡ Nothing → may_yield config next.call.state ≡ true
+        → (called config self next.call).heading_rad ≡ next.call.state.heading_rad
+    yielding_leg_answers_own_heading no_wind may = rw (yielding_answers_own_heading config self next.call next.uncommanded no_wind may handed_yielding)
 
   pub yielding_lasts_on_leg : (self : LegHeading) (calls : List (LegCall leg)) → Yielding leg self → Yielding leg (foldl (after config) self calls)
   yielding_lasts_on_leg = kept_by_calls (after config) (Yielding leg) yielding_lasts

@@ -34,6 +34,13 @@ plain_in_range limit plain =
       at_most = float_le_trans limit (f32 0x4B18_9680) (highest 60) (and_r (le (f32 0x33D6_BF95) limit) (le limit (f32 0x4B18_9680)) both) tt;
     }
 
+module _ (limit : Float) (plain : has_plain_square limit ≡ true) where
+  pub above_lowest : T (le (lowest 60) limit)
+  above_lowest = (plain_in_range limit plain).at_least
+
+  pub below_highest : T (le limit (highest 60))
+  below_highest = (plain_in_range limit plain).at_most
+
 -- ---- what the squares tell
 module _ (square limit : Float) (fit : fits binary32 limit ≡ true) (plain : has_plain_square limit ≡ true) where
   pub told_within : lt square zero ≡ false → le square (limit ⊗ limit) ≡ true → RootWithin square limit

@@ -1,5 +1,5 @@
 -- What a record comes to. Where the buffer has room, its answer, its craft and the bytes that it takes come of the craft and the bytes alone. It takes
--- no more bytes than there are, at least one unless it ends the flight, and writes 25 bytes at most; what follows a whole record does not change it.
+-- no more bytes than there are, at least one unless it ends the flight, in which case it takes none, and writes 25 bytes at most; what follows a whole record does not change it.
 -- Assumes nothing.
 use Rattle.std.proofs.lemmas.Bool.{cond_both}
 use Prim.Native.Nat.{ℕ, zero, suc, ◌-◌, ◌≤◌}
@@ -80,6 +80,10 @@ answer_short answers.NoWind = omega arith
 answer_short (answers.Wind w) = omega arith
 
 -- ---- tests
+
+-- a fact of either of two values, by the test that picks one
+pub by_test : {A : Type 0} (P : A → Type 0) (b : Bool) {x y : A} → (b ≡ true → P x) → (b ≡ false → P y) → P (cond b x y)
+by_test P b first second = cond_both b _ _ P first second
 
 -- Values that agree where the test fails agree.
 pub same_unless : {A : Type 0} (b : Bool) (x : A) {p q : A} → (b ≡ false → p ≡ q) → cond b x p ≡ cond b x q
@@ -285,6 +289,16 @@ judged_prefix guidance bytes more some not_short =
     )
     (with_kind_prefix kind guidance (drop 1 bytes) more enough)
 
+-- The record operation does not look past a whole record.
+pub nothing_past_a_record : (craft : Craft) (bytes more buffer : List ℕ) → answer_room ≤ length buffer → 1 ≤ length bytes → cut_short bytes ≡ false
+    → step craft (bytes ++ more) buffer ≡ step craft bytes buffer
+nothing_past_a_record craft bytes more buffer room some not_short =
+    rw (
+      step_judged craft (bytes ++ more) buffer room,
+      step_judged craft bytes buffer room,
+      judged_prefix craft.guidance bytes more some not_short,
+    )
+
 -- ---- what a whole record is answered
 
 setpoint_accepted : (setpoint : Setpoint) (flags : Flags) → refusal_of (setpoint_answer setpoint flags) ≡ none
@@ -372,3 +386,17 @@ taken_goes_on (Refused refusal) takes = (neither (ends_flight (answers.Refused r
 pub whole_goes_on : (kind : Kind) (guidance : Guidance) (body : List ℕ) → unknown kind ≡ false
     → ends_flight (answer_of (serve kind guidance body)) ≡ false
 whole_goes_on kind guidance body is_known = taken_goes_on (serve kind guidance body) (serve_takes kind guidance body is_known)
+
+-- no byte is taken where the flight ends
+abbrev EndsInPlace : Judged → Type 0
+EndsInPlace j = ends_flight (answer_of j.verdict) ≡ true → j.taken ≡ 0
+
+-- A record that ends the flight takes no byte.
+pub ending_takes_nothing : (craft : Craft) (bytes buffer : List ℕ) → ends_flight (step craft bytes buffer).answer ≡ true
+    → (step craft bytes buffer).taken ≡ 0
+unfolding step answered
+ending_takes_nothing craft bytes buffer =
+    let guidance = craft.guidance in
+    by_test EndsInPlace (ltb (length buffer) answer_room) (λ small ends. refl)
+    (λ room. judged_cases EndsInPlace guidance bytes (λ ends. refl) (λ ends. refl)
+    (λ is_known whole ends. absurd (true≢false (sym ends ∙ whole_goes_on (kind_of (byte_at bytes 0)) guidance _ is_known))))

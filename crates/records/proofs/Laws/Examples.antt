@@ -1,13 +1,13 @@
 -- The claims over lists of records are not empty: document 01's worked flight has an accepted configure, a priming and an ending call as the claim over whole feeds
--- asks for them. After its configure and its priming, a priming above the ground and a record of each other kind but 4 are accepted too. `examples` computes each. Its
+-- asks for them. After its configure and its priming, a priming above the ground and a record of each other kind but 4 are accepted too. `examples` computes each, and `flight_forgets` is the claim of that flight. Its
 -- configuration is the Rust's default one, but for the wind. Assumes nothing.
 use mathlib.Core.Path.{◌≡◌, refl}
 use mathlib.Core.Bool.{true, false}
 use mathlib.Core.Logic.{inl, inr}
-use mathlib.Core.List.{List, [], ◌∷◌, ◌++◌}
+use mathlib.Core.List.{List, [], ◌∷◌, ◌++◌, map}
 use lib.Dec.{T}
 use lib.ListN.{replicate}
-use lib.Ieee.{is_nan, sub, rem, le, of_bits, to_bits}
+use lib.Ieee.{is_nan, sub, rem, lt, le, of_bits, to_bits}
 use lib.Ieee.Scale.{finite}
 use Rattle.floats.specs.Compare.{abs}
 use Rattle.floats.specs.MinMax.{clamp}
@@ -23,6 +23,7 @@ use Rattle.copter.specs.Memory.{fresh}
 use Rattle.copter.specs.Guide.{heading_target, command_heading, piloted_flags, attitude_call, absolute_attitude_call, absolute_rate_call}
 use Rattle.copter.specs.Guide.{fly_to, waypoint_call, land_call, guide_call, new_craft, prime, wind_reading}
 use Rattle.copter.specs.declared.commands.TargetVelocity.TheVariants as velocities
+use Rattle.records.specs.declared.read.Configuration.TheVariants as configurations
 use Rattle.records.specs.Answer.{setpoint_bytes, answer_bytes}
 use Rattle.records.specs.Craft.{unconfigured}
 use Rattle.records.specs.Layout.{float_at, floats_from, number, laid}
@@ -30,9 +31,10 @@ use Rattle.records.specs.Kinds.{kind_of, body_length}
 use Rattle.records.specs.Values.{waypoint_values, land_values}
 use Rattle.records.specs.Read.{state, marks_ok, absolute_attitude_command, command, state_at, time_step_ok, heading_ok, configuration, read}
 use Rattle.records.specs.Step.{setpoint_answer, wind_answer, guided, perform, configure, told, serve, with_kind, judged, craft_after, answer_of, answered, step}
-use Rattle.records.specs.Feed.{Entry, after, machine, replies, body_of, Accepted}
-use Rattle.records.specs.Feed.{Ending, ending_heading, Priming, above_ground}
+use Rattle.records.specs.Feed.{Entry, after, machine, replies, Link, Fed, given_back, port_replies, body_of, Accepted}
+use Rattle.records.specs.Feed.{Ending, ending_heading, Priming, reset, above_ground}
 use Rattle.records.specs.Worked.{sent, worked_fields, configuring, still, priming, flying, flight, output, worked_answers}
+use Rattle.records.proofs.Laws.Feed.{whole_feeds}
 
 -- a priming at a height of 2, which is more than field 36 above a ground at 0
 unfoldable pub climbed : Entry
@@ -113,7 +115,14 @@ examples =
 
 -- ---- the configuration of the flight
 
--- It is the Rust's default one, with the wind fields 0.
+-- What the bytes of its fields say is the configuration of its fields,
+pub worked_configuration : configuration (laid (map number worked_fields)) ≡ configurations.Of (config_of worked_fields)
+unfolding
+    configuration worked_fields laid floats_from float_at lowest rule config_of defaults
+    check_limit check_positive check_unit_interval check_tilt below_one above_descending up_to_pi lt le of_bits to_bits
+worked_configuration = refl
+
+-- the Rust's default one, with the wind fields 0.
 pub worked_as_default :
     config_of worked_fields
     ≡ record {
@@ -125,3 +134,13 @@ pub worked_as_default :
     }
 unfolding config_of worked_fields default_config
 worked_as_default = refl
+
+-- ---- the claim applied
+
+-- After the worked flight's call of kind 6 every list is answered as from the reset memory.
+pub flight_forgets : (last : List Entry) (before later : List Link)
+    → Fed unconfigured (once_primed ++ (flying 6 ∷ [])) before
+    → Fed (given_back unconfigured before) last later
+    → port_replies later ≡ replies (reset (machine (once_primed ++ (flying 6 ∷ []))) (wrap_angle (ending_heading (flying 6)))) last
+flight_forgets last before later fed fed_later =
+    whole_feeds.ending_call_forgets once_primed (flying 6) last before later fed fed_later examples.ended_by_six examples.six_heading_finite

@@ -45,6 +45,10 @@ module _ (κs : Lfts 2) where
         → ent w.𝓤 (reads.ensures κs args tt handled exit w) (fact w.𝓤 (Fed args.0 (entry_of args ∷ entries) (link_of handled exit ∷ links)))
     link_of_clause w = fact_mono w.𝓤 (reads.Learnt κs args handled exit) _ link_of_contract
 
+  pub single_link_of_contract : (args : Arguments) (handled : Result) (exit : AtEnd) → reads.Learnt κs args handled exit
+      → Fed args.0 (entry_of args ∷ []) (link_of handled exit ∷ [])
+  single_link_of_contract args handled exit promised = link_of_contract args handled exit [] [] (unfold Fed in tt) promised
+
 -- ---- every list has links: those that the definition gives
 
 abbrev pub definition_link : Outcome → Link

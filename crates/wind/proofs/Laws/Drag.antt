@@ -1,4 +1,5 @@
--- The slope that the code hands on with an air velocity is the drag's slope there. Assumes nothing.
+-- The drag's slope is the same for an air velocity and its opposite, and the slope that the code hands on with an air velocity is the drag's slope there.
+-- Assumes nothing.
 use Rattle.std.proofs.Common.{◌≡◌, Bool, true, false, cond, refl, ◌∙◌}
 use Rattle.std.specs.Prelude.{Option, Some, None}
 use lib.Ieee.{Float, binary32, neg, lt}
@@ -18,7 +19,7 @@ slope_neg : (axis : AxisDrag) (air axial : Float) → slope axis (neg air) axial
 unfolding slope
 slope_neg axis air axial = rw (neg_square binary32 air)
 
-slope_against : (axis : AxisDrag) (force speed axial : Float) → slope axis (against force speed) axial ≡ slope axis speed axial
+pub slope_against : (axis : AxisDrag) (force speed axial : Float) → slope axis (against force speed) axial ≡ slope axis speed axial
 unfolding against
 slope_against axis force speed axial = go (lt zero force)
   where

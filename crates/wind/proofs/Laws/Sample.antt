@@ -1,5 +1,5 @@
 -- Which states give no sample: those of a craft that is tilted too far or too fast along the thrust axis, and those whose velocity, acceleration or
--- attitude is not finite. Assumes nothing.
+-- attitude is not finite. Every other state gives one. Assumes nothing.
 use Rattle.std.proofs.Common.{◌≡◌, ℕ, Bool, true, false, cond, ◌&&◌, T, refl, arith}
 use lib.Ieee.{Float, binary32, neg, lt, sub}
 use lib.Ieee.Fits.{and_l, and_r}
@@ -149,3 +149,9 @@ unusable_skipped state limit (state_not_finite n) = go (from_state state limit) 
     go : (s : Sampled) → from_state state limit ≡ s → s ≡ Nothing
     go Nothing e = refl
     go (Taken sample) e = absurd (n (taken_finite state limit sample e))
+
+-- and no other
+pub usable_taken : (state : VehicleState) (limit : Float) → lt (body_axes state.attitude).z.z min_tilt_cosine ≡ false
+    → lt limit (abs (sample_of state).axial_mps) ≡ false → sample_finite (sample_of state) ≡ true → from_state state limit ≡ Taken (sample_of state)
+unfolding from_state
+usable_taken state limit t f e = rw (t, f, e)

@@ -50,7 +50,7 @@ module _ (f : Format) (k : ℕ) (room : k + k < emax f) (m : Float) (fit : T (fi
         subst (λ (z : Float). T (le z (sqrt f s))) (sqrt_square f k room m fit within)
         (sqrt_mono f (mul f m m) s (not_below (mul f m m) nonneg) (not_below s (Order.float_le_trans +0 (mul f m m) s nonneg h)) h)
 
-    root_finite : T (not (lt s +0)) → T (le s (mul f m m)) → T (finite (sqrt f s))
+    pub root_finite : T (not (lt s +0)) → T (le s (mul f m m)) → T (finite (sqrt f s))
     root_finite n h =
         let l : T (le +0 s) = ⊎_elim (λ l. l) (λ l. absurd (T_not (lt s +0) n l)) (Order.le_or_lt +0 s (Order.finite→number +0 tt) (Order.le_numbers s (mul f m m) h).0) in
         Order.finite_between +0 (sqrt f s) m tt (positive-finite m (range_positive k m within)) (sqrt_nonneg f s l) (root_at_most n h)
@@ -105,7 +105,7 @@ module _ (f : Format) (k : ℕ) (room : suc k + suc k < emax f) (m : Float) (fit
             (omega (arith, num_below k m within, ap (λ (y : ℕ). y * den m) e));
       }
 
-  root_above : (s : Float) → T (le (mul f double double) s) → T (lt m (sqrt f s))
+  pub root_above : (s : Float) → T (le (mul f double double) s) → T (lt m (sqrt f s))
   root_above s h = Order.lt_le_trans m double (sqrt f s) lt_double (root_at_least f (suc k) room double (mul-fits f two m) double_within s h)
 
 -- ---- as tests

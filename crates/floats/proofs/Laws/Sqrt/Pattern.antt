@@ -29,8 +29,8 @@ root b = whole_root (radicand b)
 abbrev pub field : ℕ → ℕ
 field b = (exponent b + 1) / 2 - 386
 
-module _ (b M K : ℕ) (full : 2 ^ 23 ≤ M) (few : M < 2 ^ 24) (bits : b ≡ (K + 872) * 2 ^ 52 + M * 2 ^ 29) where
-  exponent_is : exponent b ≡ K + 873
+module _ (b M K : ℕ) (full : 2 ^ 23 ≤ M) (few : M < 2 ^ 24) (bits : b ≡ K * 2 ^ 52 + M * 2 ^ 29) where
+  exponent_is : exponent b ≡ K + 1
   exponent_is = omega arith
 
   digits_are : b % 2 ^ 52 + 2 ^ 52 ≡ M * 2 ^ 29
@@ -69,13 +69,13 @@ module _ (b M K : ℕ) (full : 2 ^ 23 ≤ M) (few : M < 2 ^ 24) (bits : b ≡ (K
       below m h = omega arith
 
   -- the root in units of the smallest f32
-  in_units : (x : Float) → T (positive x) → 0 < K → num x * 2 ^ 173 ≡ M * 2 ^ K * den x → sqrt binary32 x ≡ units binary32 false ((root b + 1) / 2) (field b)
-  in_units x p deep equals =
+  in_units : (x : Float) (P : ℕ) → T (positive x) → K ≡ P + 872 → 0 < P → num x * 2 ^ 173 ≡ M * 2 ^ P * den x → sqrt binary32 x ≡ units binary32 false ((root b + 1) / 2) (field b)
+  in_units x P p wide deep equals =
       let d = (exponent b + 1) / 2 - 363 in
-      let e = exponent_is in
+      let e : exponent b ≡ P + 873 = omega (arith, exponent_is, wide) in
       sqrt_positive binary32 x p
       ∙ root_of_shifted binary32 (num x) (den x) (radicand b) d (den_pos x)
-      (rescaled_square (num x) (den x) M K 173 173 (suc (25 - exponent b % 2)) d equals (places (exponent b) K e deep) ∙ ap (λ (n : ℕ). n * (2 ^ d * 2 ^ d) * den x) (sym radicand_is))
+      (rescaled_square (num x) (den x) M P 173 173 (suc (25 - exponent b % 2)) d equals (places (exponent b) P e deep) ∙ ap (λ (n : ℕ). n * (2 ^ d * 2 ^ d) * den x) (sym radicand_is))
       (omega arith) root_low (lt_of_lt_of_le root_high (lit≤ tt)) radicand_even
       ∙ ap (λ (k : ℕ). units binary32 false ((root b + 1) / 2) k) (omega arith)
     where
@@ -103,12 +103,12 @@ module _ (x : Float) (fit : T (fits binary32 x)) (p : T (positive x)) where
       lt_of_not-le (λ (g : 278 ≤ u.place). not-le_of_lt u.inside (mul-le-mul u.full (pow_mono g)))
 
   pub field_in : (386 ≤ (exponent (to_bits binary64 x) + 1) / 2) × (field (to_bits binary64 x) < 190)
-  field_in = let u = full in omega (arith, exponent_is (to_bits binary64 x) u.digits u.place u.full u.few wide, u.placed, place_below)
+  field_in = let u = full in omega (arith, exponent_is (to_bits binary64 x) u.digits (u.place + 872) u.full u.few wide, u.placed, place_below)
 
   pub root_in : (2 ^ 24 ≤ root (to_bits binary64 x)) × (root (to_bits binary64 x) < 2 ^ 25 - 1)
   root_in =
       let u = full in
-      (root_low (to_bits binary64 x) u.digits u.place u.full u.few wide, root_high (to_bits binary64 x) u.digits u.place u.full u.few wide)
+      (root_low (to_bits binary64 x) u.digits (u.place + 872) u.full u.few wide, root_high (to_bits binary64 x) u.digits (u.place + 872) u.full u.few wide)
 
   pub sqrt_pattern : to_bits binary32 (sqrt binary32 x) ≡ field (to_bits binary64 x) * 2 ^ 23 + (root (to_bits binary64 x) + 1) / 2
   sqrt_pattern =
@@ -117,7 +117,7 @@ module _ (x : Float) (fit : T (fits binary32 x)) (p : T (positive x)) where
       let q = (root b + 1) / 2 in
       let k = field b in
       let r = root_in in
-      let is = in_units b u.digits u.place u.full u.few wide x p u.placed u.equals in
+      let is = in_units b u.digits (u.place + 872) u.full u.few wide x u.place p refl u.placed u.equals in
       let small : q < 2 ^ 24 = omega arith in
       let inside : q * 2 ^ k < 2 ^ 277 = lt_of_lt_of_le (shl_lt 24 k small) (pow_mono {j = 277} (omega (arith, field_in))) in
       to_bits_normal binary32 (sqrt binary32 x) q k (omega arith) small (subst (λ (y : Float). HasValue y false (q * 2 ^ k) (2 ^ 149)) (sym is) (units_val binary32 false q k inside))
@@ -193,7 +193,7 @@ module _ (x : Float) (fit : T (fits binary32 x)) (p : T (positive x)) (reached :
       let M = b % 2 ^ 23 + 2 ^ 23 in
       let t = 24 - b / 2 ^ 23 % 2 in
       let w = wide_bits in
-      radicand_is B M (b / 2 ^ 23 + 23) (omega arith) (omega arith) (omega (arith, wide_bits))
+      radicand_is B M (b / 2 ^ 23 + 895) (omega arith) (omega arith) (omega (arith, wide_bits))
       ∙ ap (λ (y : ℕ). M * 2 ^ y) (two_more (exponent B) (b / 2 ^ 23) (omega arith))
       ∙ ap (λ (y : ℕ). M * y) (pow-add 2 2 t)
       ∙ mul_left_comm M 4 (2 ^ t)

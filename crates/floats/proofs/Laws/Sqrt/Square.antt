@@ -1,9 +1,9 @@
 -- The root of a square, both rounded, is the number squared, where the square neither overflows nor falls below the normal range (`root_of_square`), as from 2 ^ -k to 2 ^ k for a
--- k below half of the format's largest exponent (`sqrt_square`). The square is off by less than the way to the square of the midpoint with the next value. Assumes nothing.
-use Rattle.std.proofs.Common.{zero, negsuc, pow_mono, ◌≡◌, ℕ, suc, ◌+◌, ◌-◌, ◌*◌, ◌^◌, ◌<◌, ◌≤◌, Bool, true, false, cond, T, pos, sym, refl, ap, ◌∙◌, ⊎_elim, le_trans, le_of_eq, le_refl, le_of_suc-le-suc, lt_of_le_of_lt, le_of_lt, mul-le-mul_right, zero-lt-suc, mul_assoc, lt-suc_self, mul-le-mul, lt_of_mul-lt-mul_right, eq-or-lt_of_le, mul-le-mul_left, mul-lt-mul_of_pos_right, mul-pos, one-mul, lt_of_not-le, mul-one, mul_right_comm, not-le_of_lt, le_of_mul-le-mul_right, add-one, arith, pow_pos, pow-add}
+-- k below half of the format's largest exponent (`sqrt_square`), and so at binary32 from 2 ^ -60 to 2 ^ 61 (`sqrt_square_32`). The square is off by less than the way to the square of the midpoint with the next value. Assumes nothing.
+use Rattle.std.proofs.Common.{zero, negsuc, pow_mono, ◌≡◌, ℕ, suc, ◌+◌, ◌-◌, ◌*◌, ◌^◌, ◌<◌, ◌≤◌, Bool, true, false, cond, T, pos, sym, refl, ap, ◌∙◌, ⊎_elim, le_trans, le_of_eq, le_refl, le_of_suc-le-suc, lt_of_le_of_lt, le_of_lt, mul-le-mul_right, zero-lt-suc, mul_assoc, lt-suc_self, mul-le-mul, lt_of_mul-lt-mul_right, eq-or-lt_of_le, mul-le-mul_left, mul-lt-mul_of_pos_right, mul-pos, one-mul, lt_of_not-le, mul-one, mul_right_comm, not-le_of_lt, le_of_mul-le-mul_right, add-one, arith, lit<, pow_pos, pow-add}
 use native.Mathlib.Nat.{mul-mul-mul_comm}
 use lib.Pow.{pow-lt}
-use lib.Ieee.{Float, fin, Format, binary32, binary64, prec, emax, low, up, down, hid, round, neg, mul, fits, le, lt, inf, nan}
+use lib.Ieee.{Float, fin, Format, binary32, binary64, prec, emax, low, up, down, hid, round, neg, mul, fits, le, lt, of_bits, inf, nan}
 use lib.Ieee.Exact.{HasValue}
 use lib.Ieee.Fits.{two, two-le_pos, round-fits}
 use lib.Ieee.Positive.{num, den, den_pos, positive, positive-finite, own_value, between, value→cross, le→cross, values_of_le, positive_of_value, mul_at}
@@ -328,3 +328,31 @@ module _ (f : Format) (k : ℕ) (room : k + k < emax f) where
 
   pub sqrt_square_size : (x : Float) → T (fits f x) → InRange k (abs x) → sqrt f (mul f x x) ≡ abs x
   sqrt_square_size x fit within = ap (sqrt f) (square_of_size x) ∙ sqrt_square (abs x) (Order.abs_fits f x fit) within
+
+-- ---- at binary32, from 2 ^ -60 to 2 ^ 60, and twice that
+
+abbrev pub lowest_32 : Float
+lowest_32 = of_bits binary32 0x2180_0000
+
+abbrev pub highest_32 : Float
+highest_32 = of_bits binary32 0x5D80_0000
+
+abbrev pub twice_highest : Float
+twice_highest = of_bits binary32 0x5E00_0000
+
+pub range_ends : (lowest_32 ≡ lowest 60) × (highest_32 ≡ highest 60) × (twice_highest ≡ highest 61)
+unfolding of_bits
+range_ends = (refl, refl, refl)
+
+in_range_32 : (m : Float) → T (le lowest_32 m) → T (le m twice_highest) → InRange 61 m
+unfolding of_bits le
+in_range_32 m h k = record { at_least = Order.float_le_trans (lowest 61) lowest_32 m tt h; at_most = k }
+
+pub positive_in_range : (m : Float) → T (le lowest_32 m) → T (le m twice_highest) → T (positive m)
+positive_in_range m h k = range_positive 61 m (in_range_32 m h k)
+
+pub sqrt_square_32 : (m : Float) → T (fits binary32 m) → T (le lowest_32 m) → T (le m twice_highest) → sqrt binary32 (mul binary32 m m) ≡ m
+sqrt_square_32 m fit h k = sqrt_square binary32 61 (lit< tt) m fit (in_range_32 m h k)
+
+pub sqrt_square_size_32 : (x : Float) → T (fits binary32 x) → T (le lowest_32 (abs x)) → T (le (abs x) twice_highest) → sqrt binary32 (mul binary32 x x) ≡ abs x
+sqrt_square_size_32 x fit h k = sqrt_square_size binary32 61 (lit< tt) x fit (in_range_32 (abs x) h k)

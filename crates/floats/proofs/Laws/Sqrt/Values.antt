@@ -1,17 +1,17 @@
--- The values that a format holds: each is a number of at most `prec` digits, shifted, in units of the format's smallest value, and a positive one has exactly `prec` digits
--- in finer units (`Full`). The bit pattern is read off the digits. Assumes nothing.
-use Rattle.std.proofs.Common.{◌≡◌, ℕ, suc, ◌+◌, ◌-◌, ◌*◌, ◌^◌, ◌<◌, ◌≤◌, true, false, T, sym, refl, ap, ◌∙◌, subst, le_trans, le_of_eq, lt_of_lt_of_le, lt_of_le_of_lt, mul-le-mul_right, mul_assoc, mul-lt-mul_of_pos_right, lt_of_not-le, zero-add, mul_right_comm, not-le_of_lt, arith, pow_pos, pow_mono, pow-add, shl_lt}
+-- The values that a format holds: each is a number of at most `prec` digits, shifted, in units of the format's smallest value, `round` leaves it as it is, and a positive one has
+-- exactly `prec` digits in finer units (`Full`), as in a wider format (`NormalIn`). The bit pattern is read off the digits. Assumes nothing.
+use Rattle.std.proofs.Common.{◌≡◌, ℕ, suc, Bool, ℤ, le_antisymm, ◌+◌, ◌-◌, ◌*◌, ◌^◌, ◌<◌, ◌≤◌, true, false, T, sym, refl, ap, ◌∙◌, subst, le_trans, le_of_eq, lt_of_lt_of_le, lt_of_le_of_lt, mul-le-mul_right, mul_assoc, mul-lt-mul_of_pos_right, lt_of_not-le, zero-add, mul_right_comm, not-le_of_lt, arith, pow_pos, pow_mono, pow-add, shl_lt}
 use native.Mathlib.Nat.{eq_of_mul-eq-mul_right}
-use lib.Ieee.{Float, fin, Format, prec, emax, low, up, down, size, fits, le, hid, to_bits, inf, nan}
+use lib.Ieee.{Float, fin, Format, prec, emax, low, up, down, size, round, fits, le, hid, to_bits, inf, nan}
 use lib.Ieee.Digits.{size-lt, size-le, size_reaches}
 use lib.Ieee.Fits.{two, two-le_pos}
 use lib.Ieee.Exact.{HasValue}
 use lib.Ieee.Scale.{finite, overflow}
-use lib.Ieee.Positive.{num, den, positive, positive-finite, own_value, first_pos, value_pos}
+use lib.Ieee.Positive.{num, den, den_pos, positive, positive-finite, own_value, first_pos, value_pos}
 use Rattle.floats.proofs.Laws.Order
 use Rattle.floats.proofs.Laws.Order.{eq→same}
 use Rattle.floats.proofs.Laws.Round
-use Rattle.floats.proofs.Laws.Round.{up_power, down_power, fits→holds, value_sign}
+use Rattle.floats.proofs.Laws.Round.{up_power, down_power, fits→holds, value_sign, round_of_fin, round_of_value}
 use Rattle.floats.proofs.Laws.Pattern.{to_bits_of_value, digits_pattern}
 
 -- ---- in units of the smallest value
@@ -38,7 +38,25 @@ in_units f (fin s m e) fit t =
 in_units f nan fit t = elim t [ ]
 in_units f (inf _) fit t = elim t [ ]
 
+-- a value of the format is not changed by rounding
+pub round_own : (f : Format) (s : Bool) (m : ℕ) (e : ℤ) → T (fits f (fin s m e)) → round f s (m * up e) (down e) ≡ fin s m e
+round_own f s m e h = round_of_fin f s m e h
+
 -- ---- the bit pattern of a normal value, which has all the digits that the format keeps
+pub size_is : (n z : ℕ) → 2 ^ z ≤ n → n < 2 ^ suc z → size n ≡ suc z
+size_is n z at_least below = le_antisymm (size-le n (suc z) below) (lt_of_not-le (λ (g : size n ≤ z). not-le_of_lt (lt_of_lt_of_le (size-lt n) (pow_mono g)) at_least))
+
+-- a number of p digits with k zeros after it
+pub size_shifted : (p q k : ℕ) → 2 ≤ p → 2 ^ (p - 1) ≤ q → q < 2 ^ p → size (q * 2 ^ k) ≡ p + k
+size_shifted p q k P at_least below =
+    size_is (q * 2 ^ k) (p - 1 + k)
+    (le_trans (le_of_eq (pow-add 2 (p - 1) k)) (mul-le-mul_right (2 ^ k) at_least))
+    (subst (λ (x : ℕ). q * 2 ^ k < 2 ^ x) (one_more p k P) (shl_lt p k below))
+    ∙ sym (one_more p k P)
+  where
+    one_more : (p k : ℕ) → 2 ≤ p → p + k ≡ suc (p - 1 + k)
+    one_more p k h = omega arith
+
 pub to_bits_normal : (f : Format) (x : Float) (q k : ℕ) → hid f ≤ q → q < 2 ^ prec f → HasValue x false (q * 2 ^ k) (2 ^ low f) → to_bits f x ≡ k * hid f + q
 to_bits_normal f x q k at_least below v =
     to_bits_of_value f x false (q * 2 ^ k) v ∙ zero-add _ ∙ digits_pattern (prec f) k q (two-le_pos (prec f) (two f)) below (λ (K : 0 < k). at_least)
@@ -115,7 +133,76 @@ in_full f x fit p =
               (lt_of_lt_of_le (mul-lt-mul_of_pos_right inside (pow_pos (prec f))) (le_of_eq (sym (pow-add 2 (low f + suc (emax f)) (prec f)))));
         }
 
+-- ---- a positive value of the format f in a wider format g, where it is normal
+
+-- In g the size of x is digits * 2 ^ (prec g - prec f) * 2 ^ place units, and the first factor has all of f's digits.
+pub record NormalIn (f g : Format) (x : Float) : Type 0 where
+  pub digits : ℕ
+  pub place : ℕ
+  pub full : hid f ≤ digits
+  pub few : digits < 2 ^ prec f
+  pub equals : num x * 2 ^ low g ≡ digits * 2 ^ (prec g - prec f) * 2 ^ place * den x
+  pub bits : to_bits g x ≡ place * hid g + digits * 2 ^ (prec g - prec f)
+  pub low_place : low g < place + low f + prec g
+  pub high_place : place + prec g ≤ suc (emax f) + low g
+
+pow_lt_back : (a b : ℕ) → 2 ^ a < 2 ^ b → a < b
+pow_lt_back a b h = lt_of_not-le (λ (g : b ≤ a). not-le_of_lt h (pow_mono g))
+
+-- x has m * 2 ^ j units of a format with p digits and the lowest place l, and m takes i digits more: the places in a wider format, as numbers
+places : (i j p q l k : ℕ) → i < p → p ≤ q → l + q ≤ suc k
+    → (i + (q - p) + (j + (k - l) - (i + (q - p))) ≡ j + (k - l)) × (k < j + (k - l) - (i + (q - p)) + l + q) × (q - 1 ≡ p - 1 + (q - p)) × (p + (q - p) ≡ q) × (l + (k - l) ≡ k)
+places i j p q l k I wider deeper = omega arith
+
+top_place : (p q l k e z : ℕ) → p ≤ q → l + q ≤ suc k → q - 1 + z < l + suc e + (k - l) → z + q ≤ suc e + k
+top_place p q l k e z wider deeper h = omega arith
+
+pub normal_in : (f g : Format) (x : Float) → T (fits f x) → T (positive x) → prec f ≤ prec g → low f + prec g ≤ suc (low g) → NormalIn f g x
+normal_in f g x fit p wider deeper =
+    let u = in_units f x fit (positive-finite x p) in
+    let own = value_of x (u.digits * 2 ^ u.place) (2 ^ low f) p u.equals in
+    let some = first_pos u.digits (2 ^ u.place) (value_pos x (u.digits * 2 ^ u.place) (2 ^ low f) p (pow_pos (low f)) own) in
+    let s = shifted_full (prec f) u.digits some u.few in
+    go u.digits u.place s.0 u.equals u.inside s.1 s.2 s.3
+  where
+    go : (m j i : ℕ) → num x * 2 ^ low f ≡ m * 2 ^ j * den x → m * 2 ^ j < overflow f → i < prec f → hid f ≤ m * 2 ^ i → m * 2 ^ i < 2 ^ prec f → NormalIn f g x
+    go m j i equals inside I full few =
+        let P = prec g - prec f in
+        let k = j + (low g - low f) - (i + P) in
+        let n = places i j (prec f) (prec g) (low f) (low g) I wider deeper in
+        let moved : m * 2 ^ i * 2 ^ P * 2 ^ k ≡ m * 2 ^ j * 2 ^ (low g - low f) =
+        mul_assoc (m * 2 ^ i) (2 ^ P) (2 ^ k)
+        ∙ mul_assoc m (2 ^ i) (2 ^ P * 2 ^ k)
+        ∙ ap (λ (y : ℕ). m * y) (sym (mul_assoc (2 ^ i) (2 ^ P) (2 ^ k)) ∙ ap (λ (y : ℕ). y * 2 ^ k) (sym (pow-add 2 i P)) ∙ sym (pow-add 2 (i + P) k) ∙ ap (λ (y : ℕ). 2 ^ y) n.0 ∙ pow-add 2 j (low g - low f))
+        ∙ sym (mul_assoc m (2 ^ j) (2 ^ (low g - low f))) in
+        let eq : num x * 2 ^ low g ≡ m * 2 ^ i * 2 ^ P * 2 ^ k * den x =
+        ap (λ (y : ℕ). num x * y) (ap (λ (y : ℕ). 2 ^ y) (sym n.4) ∙ pow-add 2 (low f) (low g - low f))
+        ∙ sym (mul_assoc (num x) (2 ^ low f) (2 ^ (low g - low f)))
+        ∙ ap (λ (y : ℕ). y * 2 ^ (low g - low f)) equals
+        ∙ mul_right_comm (m * 2 ^ j) (den x) (2 ^ (low g - low f))
+        ∙ ap (λ (y : ℕ). y * den x) (sym moved) in
+        let at_least : hid g ≤ m * 2 ^ i * 2 ^ P =
+        le_trans (le_of_eq (ap (λ (y : ℕ). 2 ^ y) n.2 ∙ pow-add 2 (prec f - 1) P)) (mul-le-mul_right (2 ^ P) full) in
+        record {
+          digits = m * 2 ^ i;
+          place = k;
+          full = full;
+          few = few;
+          equals = eq;
+          bits = to_bits_normal g x (m * 2 ^ i * 2 ^ P) k at_least
+              (subst (λ (y : ℕ). m * 2 ^ i * 2 ^ P < 2 ^ y) n.3 (shl_lt (prec f) P few))
+              (value_of x (m * 2 ^ i * 2 ^ P * 2 ^ k) (2 ^ low g) p eq);
+          low_place = n.1;
+          high_place = top_place (prec f) (prec g) (low f) (low g) (emax f) k wider deeper
+              (pow_lt_back (prec g - 1 + k) (low f + suc (emax f) + (low g - low f))
+              (lt_of_le_of_lt (le_trans (le_of_eq (pow-add 2 (prec g - 1) k)) (mul-le-mul_right (2 ^ k) at_least))
+              (lt_of_le_of_lt (le_of_eq moved) (lt_of_lt_of_le (mul-lt-mul_of_pos_right inside (pow_pos (low g - low f))) (le_of_eq (sym (pow-add 2 (low f + suc (emax f)) (low g - low f))))))));
+        }
+
 -- ---- positive values
+
+pub round_of : (f : Format) (y : Float) → T (positive y) → T (fits f y) → round f false (num y) (den y) ≡ y
+round_of f y p fit = round_of_value f y false (num y) (den y) (den_pos y) fit (own_value y p)
 
 pub le_antisymm_positive : (f : Format) (x y : Float) → T (fits f x) → T (fits f y) → T (positive x) → T (positive y) → T (le x y) → T (le y x) → x ≡ y
 le_antisymm_positive f x y fit fit' p q h k =

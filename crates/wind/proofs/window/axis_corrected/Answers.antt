@@ -5,12 +5,12 @@ use Rattle.wind.proofs.window.axis_corrected.Goals as goal
 
 pub returns-in_default : goal.returns-in_default
 unfolding axis_corrected
-returns-in_default c = rw (none_handed_on _ _ _ c.in_default.ensures)
+returns-in_default c = rw (none_handed_on _ _ _ c.in_default.ensures.in_steps)
 
 pub returns : goal.returns
 unfolding axis_corrected
 returns c =
-    let handed = air_handed_on _ _ _ _ _ c.in-Along.ensures in
+    let handed = air_handed_on _ _ _ _ _ c.in-Along.ensures.in_steps in
     rw (
       handed.0,
       c.correct.ensures,

@@ -149,55 +149,40 @@ pub record NormalIn (f g : Format) (x : Float) : Type 0 where
 pow_lt_back : (a b : ℕ) → 2 ^ a < 2 ^ b → a < b
 pow_lt_back a b h = lt_of_not-le (λ (g : b ≤ a). not-le_of_lt h (pow_mono g))
 
--- x has m * 2 ^ j units of a format with p digits and the lowest place l, and m takes i digits more: the places in a wider format, as numbers
-places : (i j p q l k : ℕ) → i < p → p ≤ q → l + q ≤ suc k
-    → (i + (q - p) + (j + (k - l) - (i + (q - p))) ≡ j + (k - l)) × (k < j + (k - l) - (i + (q - p)) + l + q) × (q - 1 ≡ p - 1 + (q - p)) × (p + (q - p) ≡ q) × (l + (k - l) ≡ k)
-places i j p q l k I wider deeper = omega arith
+-- x has p digits j places up, over the lowest place l with p places more: its places in a wider format of q digits and the lowest place k, as numbers
+places : (j p q l k : ℕ) → 2 ≤ p → 0 < j → p ≤ q → l + q ≤ suc k
+    → (j + k ≡ q - p + (j + k - (l + q)) + (l + p)) × (k < j + k - (l + q) + l + q) × (q - 1 ≡ p - 1 + (q - p)) × (p + (q - p) ≡ q)
+places j p q l k some placed wider deeper = omega arith
 
-top_place : (p q l k e z : ℕ) → p ≤ q → l + q ≤ suc k → q - 1 + z < l + suc e + (k - l) → z + q ≤ suc e + k
-top_place p q l k e z wider deeper h = omega arith
+top_place : (j p q l k e : ℕ) → 2 ≤ p → p - 1 + j < l + suc e + p → l + q ≤ suc k → 0 < j → j + k - (l + q) + q ≤ suc e + k
+top_place j p q l k e some h deeper placed = omega arith
 
 pub normal_in : (f g : Format) (x : Float) → T (fits f x) → T (positive x) → prec f ≤ prec g → low f + prec g ≤ suc (low g) → NormalIn f g x
 normal_in f g x fit p wider deeper =
-    let u = in_units f x fit (positive-finite x p) in
-    let own = value_of x (u.digits * 2 ^ u.place) (2 ^ low f) p u.equals in
-    let some = first_pos u.digits (2 ^ u.place) (value_pos x (u.digits * 2 ^ u.place) (2 ^ low f) p (pow_pos (low f)) own) in
-    let s = shifted_full (prec f) u.digits some u.few in
-    go u.digits u.place s.0 u.equals u.inside s.1 s.2 s.3
-  where
-    go : (m j i : ℕ) → num x * 2 ^ low f ≡ m * 2 ^ j * den x → m * 2 ^ j < overflow f → i < prec f → hid f ≤ m * 2 ^ i → m * 2 ^ i < 2 ^ prec f → NormalIn f g x
-    go m j i equals inside I full few =
-        let P = prec g - prec f in
-        let k = j + (low g - low f) - (i + P) in
-        let n = places i j (prec f) (prec g) (low f) (low g) I wider deeper in
-        let moved : m * 2 ^ i * 2 ^ P * 2 ^ k ≡ m * 2 ^ j * 2 ^ (low g - low f) =
-        mul_assoc (m * 2 ^ i) (2 ^ P) (2 ^ k)
-        ∙ mul_assoc m (2 ^ i) (2 ^ P * 2 ^ k)
-        ∙ ap (λ (y : ℕ). m * y) (sym (mul_assoc (2 ^ i) (2 ^ P) (2 ^ k)) ∙ ap (λ (y : ℕ). y * 2 ^ k) (sym (pow-add 2 i P)) ∙ sym (pow-add 2 (i + P) k) ∙ ap (λ (y : ℕ). 2 ^ y) n.0 ∙ pow-add 2 j (low g - low f))
-        ∙ sym (mul_assoc m (2 ^ j) (2 ^ (low g - low f))) in
-        let eq : num x * 2 ^ low g ≡ m * 2 ^ i * 2 ^ P * 2 ^ k * den x =
-        ap (λ (y : ℕ). num x * y) (ap (λ (y : ℕ). 2 ^ y) (sym n.4) ∙ pow-add 2 (low f) (low g - low f))
-        ∙ sym (mul_assoc (num x) (2 ^ low f) (2 ^ (low g - low f)))
-        ∙ ap (λ (y : ℕ). y * 2 ^ (low g - low f)) equals
-        ∙ mul_right_comm (m * 2 ^ j) (den x) (2 ^ (low g - low f))
-        ∙ ap (λ (y : ℕ). y * den x) (sym moved) in
-        let at_least : hid g ≤ m * 2 ^ i * 2 ^ P =
-        le_trans (le_of_eq (ap (λ (y : ℕ). 2 ^ y) n.2 ∙ pow-add 2 (prec f - 1) P)) (mul-le-mul_right (2 ^ P) full) in
-        record {
-          digits = m * 2 ^ i;
-          place = k;
-          full = full;
-          few = few;
-          equals = eq;
-          bits = to_bits_normal g x (m * 2 ^ i * 2 ^ P) k at_least
-              (subst (λ (y : ℕ). m * 2 ^ i * 2 ^ P < 2 ^ y) n.3 (shl_lt (prec f) P few))
-              (value_of x (m * 2 ^ i * 2 ^ P * 2 ^ k) (2 ^ low g) p eq);
-          low_place = n.1;
-          high_place = top_place (prec f) (prec g) (low f) (low g) (emax f) k wider deeper
-              (pow_lt_back (prec g - 1 + k) (low f + suc (emax f) + (low g - low f))
-              (lt_of_le_of_lt (le_trans (le_of_eq (pow-add 2 (prec g - 1) k)) (mul-le-mul_right (2 ^ k) at_least))
-              (lt_of_le_of_lt (le_of_eq moved) (lt_of_lt_of_le (mul-lt-mul_of_pos_right inside (pow_pos (low g - low f))) (le_of_eq (sym (pow-add 2 (low f + suc (emax f)) (low g - low f))))))));
-        }
+    let u = in_full f x fit p in
+    let P = prec g - prec f in
+    let k = u.place + low g - (low f + prec g) in
+    let n = places u.place (prec f) (prec g) (low f) (low g) (two f) u.placed wider deeper in
+    let eq : num x * 2 ^ low g ≡ u.digits * 2 ^ P * 2 ^ k * den x =
+    rescaled (num x) (den x) u.digits u.place (low f + prec f) (low g) (P + k) u.equals n.0
+    ∙ ap (λ (y : ℕ). y * den x) (ap (λ (y : ℕ). u.digits * y) (pow-add 2 P k) ∙ sym (mul_assoc u.digits (2 ^ P) (2 ^ k))) in
+    let at_least : hid g ≤ u.digits * 2 ^ P =
+    le_trans (le_of_eq (ap (λ (y : ℕ). 2 ^ y) n.2 ∙ pow-add 2 (prec f - 1) P)) (mul-le-mul_right (2 ^ P) u.full) in
+    record {
+      digits = u.digits;
+      place = k;
+      full = u.full;
+      few = u.few;
+      equals = eq;
+      bits = to_bits_normal g x (u.digits * 2 ^ P) k at_least
+          (subst (λ (y : ℕ). u.digits * 2 ^ P < 2 ^ y) n.3 (shl_lt (prec f) P u.few))
+          (value_of x (u.digits * 2 ^ P * 2 ^ k) (2 ^ low g) p eq);
+      low_place = n.1;
+      high_place = top_place u.place (prec f) (prec g) (low f) (low g) (emax f) (two f)
+          (pow_lt_back (prec f - 1 + u.place) (low f + suc (emax f) + prec f)
+          (lt_of_le_of_lt (le_trans (le_of_eq (pow-add 2 (prec f - 1) u.place)) (mul-le-mul_right (2 ^ u.place) u.full)) u.inside))
+          deeper u.placed;
+    }
 
 -- ---- positive values
 

@@ -1,5 +1,6 @@
--- How the port divides an update of the wind: what its inner functions give. Nothing here has to be believed, since an update is stated without it, and
--- the laws of proofs/Laws/Drag.antt tie the two. `AxisDrag::air_velocity` alone names `with_slope`, which adds the slope to the air velocity. Assumes nothing.
+-- How the port divides an update of the wind: what its inner functions give. An update is stated without any of it, and the laws of
+-- proofs/Laws/Drag.antt tie the two. Of public contracts only that of `AxisDrag::air_velocity` names definitions of this file: `with_slope` adds the
+-- slope to the source's air velocity, and `air_and_slope` is how the code gets both. Assumes nothing.
 use Rattle.std.specs.Prelude.{cond, Option, Some, None, Float}
 use Rattle.std.specs.Float.Ieee.{lt}
 use Rattle.floats.specs.Ops.{◌⊘◌}

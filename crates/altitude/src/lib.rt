@@ -5,6 +5,7 @@ ghost use Rattle.std.specs.Prelude.{◌≡◌};
 ghost use Rattle.altitude.specs.Altitude.{fresh, control, integrated, thrust};
 
 use controllers::Gains;
+use floats::compare::is_finite;
 use math::GRAVITY;
 use math::vectors::Quaternion;
 
@@ -32,7 +33,7 @@ pub struct AltitudeEstimate {
     pub attitude: Quaternion,
 }
 
-#[derive(Clone, Copy)]
+#[derive(Clone, Copy, Default)]
 pub struct AltitudeController {
     pub integrated_error: f32,
 }
@@ -46,16 +47,16 @@ pub struct AltitudeControl {
 }
 
 impl AltitudeController {
+    #[tactic(auto, unfolding(crate::specs::Altitude::fresh))]
     pub fn new() -> AltitudeController
         ensures { result ≡ fresh }
     {
-        AltitudeController {
-            integrated_error: 0.0,
-        }
+        AltitudeController::default()
     }
 
     // The thrust towards `target` over `dt` seconds. Where an error is not finite, it is the hover thrust
     // and the integral stays.
+    #[tactic(auto, unfolding(crate::specs::Altitude::control))]
     pub fn control(
         self,
         config: AltitudeControllerConfig,
@@ -67,32 +68,31 @@ impl AltitudeController {
     {
         let altitude_error = target.altitude_m - estimate.altitude_m;
         let velocity_error = target.velocity_mps - estimate.velocity_mps;
-        if floats::compare::is_finite(altitude_error) {
-            if floats::compare::is_finite(velocity_error) {
-                let integral = integrated(config, dt, altitude_error, self.integrated_error);
-                return AltitudeControl {
-                    controller: AltitudeController {
-                        integrated_error: integral,
-                    },
-                    thrust: thrust(
-                        config,
-                        altitude_error,
-                        velocity_error,
-                        integral,
-                        estimate.attitude,
-                    ),
-                };
-            }
+        if !(is_finite(altitude_error) && is_finite(velocity_error)) {
+            return AltitudeControl {
+                controller: self,
+                thrust: config.hover_thrust,
+            };
         }
+        let integral = integrated(config, dt, altitude_error, self.integrated_error);
         AltitudeControl {
-            controller: self,
-            thrust: config.hover_thrust,
+            controller: AltitudeController {
+                integrated_error: integral,
+            },
+            thrust: thrust(
+                config,
+                altitude_error,
+                velocity_error,
+                integral,
+                estimate.attitude,
+            ),
         }
     }
 }
 
 // The integral after a call whose errors are finite. It is clamped in every such call, so that a
 // smaller limit applies outside the band too.
+#[tactic(auto, unfolding(crate::specs::Altitude::integrated))]
 fn integrated(
     config: AltitudeControllerConfig,
     dt: f32,
@@ -101,13 +101,17 @@ fn integrated(
 ) -> f32
     ensures { result ≡ integrated config dt altitude_error integrated_error }
 {
-    if floats::compare::abs(altitude_error) < config.integration_band_m {
-        return math::clamp_symmetric(integrated_error + altitude_error * dt, config.max_integral);
-    }
-    math::clamp_symmetric(integrated_error, config.max_integral)
+    let in_band = floats::compare::abs(altitude_error) < config.integration_band_m;
+    let integral = if in_band {
+        integrated_error + altitude_error * dt
+    } else {
+        integrated_error
+    };
+    math::clamp_symmetric(integral, config.max_integral)
 }
 
 // The thrust for the acceleration that the gains ask for, boosted for the tilt.
+#[tactic(auto, unfolding(crate::specs::Altitude::thrust))]
 fn thrust(
     config: AltitudeControllerConfig,
     altitude_error: f32,

@@ -1,2 +1,4 @@
--- Laws of moved bytes.
+-- Laws of moved bytes and of held ones.
+pub mod Ended
+pub mod Held
 pub mod Moved

@@ -1,46 +1,139 @@
-// A buffer that holds the start of a record until the rest of it is read.
+// What the programs share: a buffer of bytes, and the loop that reads and answers.
 #![tactic(auto)]
 
-ghost use Rattle.std.specs.Prelude.{◌≡◌, ◌≤◌, length, take};
-ghost use Rattle.buffers.specs.Buffers.{moved};
+mod launcher;
 
+ghost use Rattle.std.specs.Prelude.{ℕ, ◌≡◌, ◌+◌, ◌-◌, ◌≤◌, ◌++◌, length, take, drop, replicate, List, []};
+ghost use Rattle.buffers.specs.Buffers.{moved, Reads};
+
+pub use launcher::{Program, Reading};
 use std::io::Read;
+use std::marker::Model;
+
+// At most `N` bytes. Clauses see the list of them.
+#[derive(Drop)]
+pub struct Buffer<const N: usize> {
+    bytes: [u8; N],
+    held: usize,
+}
+
+impl<const N: usize> Model for Buffer<N> {
+    ghost use Rattle.std.specs.Prelude.{ℕ, List, take, ◌≤◌};
+
+    ghost Value = { List ℕ };
+
+    ghost view = { λ b. take b.held b.bytes };
+
+    ghost invariant = { λ b. b.held ≤ N };
+}
+
+impl<const N: usize> Buffer<N> {
+    pub fn new() -> Self
+        ensures { result ≡ [] }
+    {
+        Buffer {
+            bytes: [0; N],
+            held: 0,
+        }
+    }
+
+    pub fn held(&self) -> &[u8]
+        ensures bytes { result.now ≡ self.now }
+        ensures within { length self.now ≤ N }
+    {
+        &self.bytes[..self.held]
+    }
+
+    // What is held and zeros behind it.
+    pub fn padded(&self) -> [u8; N]
+        ensures { result ≡ self.now ++ replicate (N - length self.now) 0 }
+    {
+        let mut padded = [0; N];
+        put_front(&mut padded, self.held());
+        padded
+    }
+
+    // How many bytes more it can hold.
+    pub fn room(&self) -> usize
+        ensures { length self.now + result ≡ N }
+    {
+        N - self.held
+    }
+
+    // Reads once behind what is held, and gives the count of bytes read: 0 at the end of the input,
+    // with no room and where the read fails.
+    pub fn read<R: Read>(&mut self, reader: &mut R) -> usize
+        ensures count { length self.new ≡ length self.old + result }
+        ensures reads { Reads (R.remaining reader.old) (R.remaining reader.new) self.old self.new }
+    {
+        let all = &mut self.bytes[..];
+        let Ok(got) = reader.read(&mut all[self.held..]) else {
+            return 0;
+        };
+        self.held += got;
+        got
+    }
+
+    // Reads until it is full, the input ends or a read fails, and gives the count of bytes read.
+    pub fn fill<R: Read>(&mut self, reader: &mut R) -> usize
+        ensures count { length self.new ≡ length self.old + result }
+        ensures reads { Reads (R.remaining reader.old) (R.remaining reader.new) self.old self.new }
+    {
+        let before = self.held().len();
+        for _ in 0..N {
+            if self.room() == 0 || self.read(reader) == 0 {
+                break;
+            }
+        }
+        self.held().len() - before
+    }
+
+    // Drops the first `count` bytes and moves the others to the start.
+    pub fn drop_front(&mut self, count: usize)
+        ensures { self.new ≡ drop count self.old }
+    {
+        move_down(&mut self.bytes, count, self.held);
+        self.held = self.held.saturating_sub(count);
+    }
+}
+
+fn put_front(all: &mut [u8], bytes: &[u8])
+    requires { length bytes.now ≤ length all.old }
+    ensures { all.new ≡ bytes.now ++ drop (length bytes.now) all.old }
+{
+    all[..bytes.len()].copy_from_slice(bytes);
+}
+
+// What bytes are appended to, as far as there is room.
+pub trait Sink {
+    ghost contents: { Self → List ℕ };
+
+    ghost capacity: { ℕ };
+
+    fn append(&mut self, bytes: &[u8])
+        ensures { contents self.new ≡ take capacity (contents self.old ++ bytes.now) };
+}
+
+impl<const N: usize> Sink for Buffer<N> {
+    ghost contents = { λ b. b };
+
+    ghost capacity = { N };
+
+    fn append(&mut self, bytes: &[u8]) {
+        let count = bytes.len().min(N - self.held);
+        let end = self.held + count;
+        let all = &mut self.bytes[..];
+        all[self.held..end].copy_from_slice(&bytes[..count]);
+        self.held = end;
+    }
+}
 
 // Moves the bytes from `from` to `end` to the start. An `end` past the buffer, or a `from` past `end`,
 // moves nothing.
 pub fn move_down(bytes: &mut [u8], from: usize, end: usize)
     ensures { bytes.new ≡ moved bytes.old from end }
 {
-    if end > bytes.len() {
-        return;
+    if end <= bytes.len() && from < end {
+        bytes.copy_within(from..end, 0);
     }
-    let mut i = from;
-    while i < end {
-        bytes[i - from] = bytes[i];
-        i += 1;
-    }
-}
-
-// Reads behind the first `held` bytes until the buffer is full, the input ends or a read fails, and gives how
-// many bytes are then held. A `held` past the buffer reads nothing.
-pub fn fill<R: Read>(reader: &mut R, bytes: &mut [u8], held: usize) -> usize
-    ensures not_fewer { held ≤ result }
-    ensures within { held ≤ length bytes.old → result ≤ length bytes.old }
-    ensures same_length { length bytes.new ≡ length bytes.old }
-    ensures kept { take held bytes.new ≡ take held bytes.old }
-{
-    let mut filled = held;
-    for _ in 0..bytes.len() {
-        if filled >= bytes.len() {
-            break;
-        }
-        let Ok(got) = reader.read(&mut bytes[filled..]) else {
-            break;
-        };
-        if got == 0 {
-            break;
-        }
-        filled += got;
-    }
-    filled
 }

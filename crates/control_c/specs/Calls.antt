@@ -1,32 +1,16 @@
 -- Calls of the controllers as C makes them, their numbers in arrays. Assumes nothing.
-use Rattle.std.specs.Prelude.{ℕ, cond, List, [], ◌∷◌, get_or, Float}
-use Rattle.std.specs.Float.{nan}
-use Rattle.std.specs.Float.Ieee.{eq}
-use Rattle.math.specs.Math.{zero, one}
+use Rattle.std.specs.Prelude.{List, [], ◌∷◌, Float}
 use Rattle.math.specs.Vectors.{zeros}
 use Rattle.math.specs.declared.vectors.Vec2.{Vec2}
-use Rattle.math.specs.declared.vectors.Vec3.{Vec3}
-use Rattle.controllers.specs.declared.derivative.DerivativeState.{DerivativeState}
-use Rattle.controllers.specs.declared.derivative.DerivativeState.TheVariants.{Empty, Previous}
 use Rattle.altitude.specs.Altitude.{control as altitude_control}
 use Rattle.altitude.specs.declared.AltitudeControl.{AltitudeControl}
 use Rattle.lateral.specs.Lateral.{control as lateral_control}
-use Rattle.lateral.specs.declared.ShapedVelocity.{ShapedVelocity}
-use Rattle.lateral.specs.declared.ShapedVelocity.TheVariants.{Nothing, At}
 use Rattle.lateral.specs.declared.LateralController.{LateralController}
 use Rattle.lateral.specs.declared.LateralControl.{LateralControl}
 use Rattle.wind.specs.declared.state.VehicleState.{VehicleState}
 use Rattle.control_c.specs.declared.memory.Held.{Held}
-
--- the number at a place of an array, and the vector at two places
-abbrev pub at : List Float → ℕ → Float
-at l k = get_or l k nan
-
-abbrev pub vec2 : List Float → ℕ → ℕ → Vec2
-vec2 l x y = record { x = at l x; y = at l y }
-
-abbrev vec3 : List Float → ℕ → ℕ → ℕ → Vec3
-vec3 l x y z = record { x = at l x; y = at l y; z = at l z }
+use Rattle.control_c.specs.Places.{at, vec2, vec3}
+use Rattle.control_c.specs.Missing.{held, vector_from}
 
 -- A state: position, velocity, acceleration, attitude, yaw rate and heading.
 abbrev pub state : List Float → VehicleState
@@ -59,25 +43,6 @@ altitude_call integral l =
       attitude = record { w = at l 11; i = at l 12; j = at l 13; k = at l 14 };
     })
 
--- ---- what may be missing, as a flag and a vector
-
-unfoldable pub history : Held → DerivativeState
-history held = cond (eq held.flag zero) Empty (Previous held.vector)
-
-unfoldable pub held_history : DerivativeState → Held
-held_history Empty = record { flag = zero; vector = zeros }
-held_history (Previous error) = record { flag = one; vector = error }
-
-unfoldable pub shaped : Held → ShapedVelocity
-shaped held = cond (eq held.flag zero) Nothing (At held.vector)
-
-unfoldable pub held_shaped : ShapedVelocity → Held
-held_shaped Nothing = record { flag = zero; vector = zeros }
-held_shaped (At velocity) = record { flag = one; vector = velocity }
-
-abbrev held : List Float → ℕ → ℕ → ℕ → Held
-held l flag x y = record { flag = at l flag; vector = vec2 l x y }
-
 -- ---- lateral control
 
 -- The memory in the first ten places: the integral, the derivative's history, the shaped velocity and the commanded one.
@@ -85,8 +50,8 @@ abbrev pub memory : List Float → LateralController
 memory m =
     record {
       integrated_error = vec2 m 0 1;
-      derivative = history (held m 2 3 4);
-      shaped_velocity_mps = shaped (held m 5 6 7);
+      derivative = record { previous_error = vector_from m 2 };
+      shaped_velocity_mps = vector_from m 5;
       commanded_velocity_mps = vec2 m 8 9;
     }
 
@@ -109,12 +74,13 @@ lateral_call controller l =
     (vec2 l 18 19)
 
 -- the memory after a call, and the acceleration
-abbrev numbers : LateralController → Held → Held → Vec2 → List Float
+abbrev numbers : LateralController → Held Vec2 → Held Vec2 → Vec2 → List Float
 numbers c history shaped accel =
     c.integrated_error.x ∷ c.integrated_error.y ∷
-    history.flag ∷ history.vector.x ∷ history.vector.y ∷
-    shaped.flag ∷ shaped.vector.x ∷ shaped.vector.y ∷
+    history.flag ∷ history.value.x ∷ history.value.y ∷
+    shaped.flag ∷ shaped.value.x ∷ shaped.value.y ∷
     c.commanded_velocity_mps.x ∷ c.commanded_velocity_mps.y ∷ accel.x ∷ accel.y ∷ []
 
 abbrev pub lateral_numbers : LateralControl → List Float
-lateral_numbers r = numbers r.controller (held_history r.controller.derivative) (held_shaped r.controller.shaped_velocity_mps) r.accel_mps2
+lateral_numbers r =
+    numbers r.controller (held r.controller.derivative.previous_error zeros) (held r.controller.shaped_velocity_mps zeros) r.accel_mps2

@@ -3,11 +3,12 @@ ghost use Rattle.std.specs.Prelude.{◌≡◌};
 ghost use Rattle.control_c.specs.Calls.{state};
 ghost use Rattle.control_c.specs.HoverWind as wind;
 
-use crate::memory::{HeldEstimate, HeldNumber};
+use crate::memory::{Held, estimate, number, of_estimate};
 use crate::state::vehicle_state;
 use heading::hover_wind::HoverWind;
 use math::vectors::Vec2;
 use wind::drag::WindConfig;
+use wind::sample::Sample;
 use wind::window::{WindEstimator, Window};
 
 // The memory and the window's count of samples are read and replaced.
@@ -44,14 +45,12 @@ fn wind_config(w: &[f32; 11]) -> WindConfig
 fn wind_memory(m: &[f32; 19], ticks: u32) -> HoverWind
     ensures { result ≡ wind.memory m.now ticks }
 {
-    let estimate = HeldEstimate::from(m, 0);
-    let ground = HeldNumber::from(m, 17);
     HoverWind {
         estimator: WindEstimator {
-            filter: estimate.filter(),
+            filter: estimate(m, 0),
             window: window(m, ticks),
         },
-        ground_altitude_m: ground.ground(),
+        ground_altitude_m: number(m, 17),
     }
 }
 
@@ -61,24 +60,24 @@ fn window(m: &[f32; 19], ticks: u32) -> Window
     Window {
         elapsed_s: m[7],
         ticks,
-        specific_force_mps2: Vec2 { x: m[8], y: m[9] },
-        ground_along_mps: Vec2 { x: m[10], y: m[11] },
-        axis_x: Vec2 { x: m[12], y: m[13] },
-        axis_y: Vec2 { x: m[14], y: m[15] },
-        axial_mps: m[16],
+        sums: Sample {
+            specific_force_mps2: Vec2 { x: m[8], y: m[9] },
+            ground_along_mps: Vec2 { x: m[10], y: m[11] },
+            axis_x: Vec2 { x: m[12], y: m[13] },
+            axis_y: Vec2 { x: m[14], y: m[15] },
+            axial_mps: m[16],
+        },
     }
 }
 
 fn wind_numbers(after: HoverWind) -> [f32; 19]
     ensures { result ≡ wind.numbers after }
 {
-    let estimator = after.estimator;
-    let filter = estimator.filter;
-    let window = estimator.window;
-    let ground_altitude_m = after.ground_altitude_m;
-    let held = HeldEstimate::of_filter(filter);
-    let ground = HeldNumber::of_ground(ground_altitude_m);
-    let wind = held.estimate;
+    let window = after.estimator.window;
+    let sums = window.sums;
+    let held = of_estimate(after.estimator.filter);
+    let ground = Held::of(after.ground_altitude_m, 0.0);
+    let wind = held.value;
     [
         held.flag,
         wind.velocity_mps.x,
@@ -88,16 +87,16 @@ fn wind_numbers(after: HoverWind) -> [f32; 19]
         wind.covariance_m2ps2.m10,
         wind.covariance_m2ps2.m11,
         window.elapsed_s,
-        window.specific_force_mps2.x,
-        window.specific_force_mps2.y,
-        window.ground_along_mps.x,
-        window.ground_along_mps.y,
-        window.axis_x.x,
-        window.axis_x.y,
-        window.axis_y.x,
-        window.axis_y.y,
-        window.axial_mps,
+        sums.specific_force_mps2.x,
+        sums.specific_force_mps2.y,
+        sums.ground_along_mps.x,
+        sums.ground_along_mps.y,
+        sums.axis_x.x,
+        sums.axis_x.y,
+        sums.axis_y.x,
+        sums.axis_y.y,
+        sums.axial_mps,
         ground.flag,
-        ground.number,
+        ground.value,
     ]
 }

@@ -3,46 +3,12 @@ ghost use Rattle.std.specs.Prelude.{◌≡◌};
 ghost use Rattle.control_c.specs.Calls.{state};
 ghost use Rattle.control_c.specs.LegHeading as leg;
 
-use crate::memory::{HeldEstimate, HeldNumber};
+use crate::memory::{Held, estimate, number, of_estimate};
 use crate::state::vehicle_state;
-use heading::leg_heading::{Leg, LegHeading, LegMemory, Turn};
+use heading::HeadingConfig;
+use heading::leg_heading::{HeadingCall, Leg, LegHeading, Turn};
 use heading::wind_heading::WindHeading;
-use heading::{Angle, HeadingConfig};
 use math::vectors::Vec2;
-
-// A flag, 0.0 where there is no leg, and a leg.
-#[derive(Clone, Copy)]
-pub struct HeldLeg {
-    pub flag: f32,
-    pub leg: Leg,
-}
-
-impl HeldLeg {
-    fn memory(self) -> LegMemory
-        ensures { result ≡ leg.flown self }
-    {
-        let leg = self.leg;
-        if self.flag == 0.0 {
-            return LegMemory::Nothing;
-        }
-        LegMemory::Flown(leg)
-    }
-
-    fn of_memory(flown: LegMemory) -> HeldLeg
-        ensures { result ≡ leg.held_leg flown }
-    {
-        let LegMemory::Flown(leg) = flown else {
-            return HeldLeg {
-                flag: 0.0,
-                leg: Leg {
-                    to_m: Vec2::zeros(),
-                    bearing_rad: Angle::Nothing,
-                },
-            };
-        };
-        HeldLeg { flag: 1.0, leg }
-    }
-}
 
 // The heading to turn to. The memory is read and replaced.
 #[unsafe(no_mangle)]
@@ -58,17 +24,14 @@ pub extern "C" fn tarragonhoe_leg_heading(m: &mut [f32; 18], w: &[f32; 23], s: &
 fn turned(before: LegHeading, w: &[f32; 23], s: &[f32; 15]) -> Turn
     ensures { result ≡ leg.call before w.now (state s.now) }
 {
-    let commanded = HeldNumber::from(w, 14);
-    let estimate = HeldEstimate::from(w, 16);
-    before.target_rad(
-        w[10],
-        heading_config(w),
-        w[11],
-        Vec2 { x: w[12], y: w[13] },
-        commanded.angle(),
-        estimate.filter(),
-        vehicle_state(s),
-    )
+    let call = HeadingCall {
+        dt: w[10],
+        config: heading_config(w),
+        target_rad: w[11],
+        estimate: estimate(w, 16),
+        state: vehicle_state(s),
+    };
+    before.target_rad(call, Vec2 { x: w[12], y: w[13] }, number(w, 14))
 }
 
 fn heading_config(w: &[f32; 23]) -> HeadingConfig
@@ -91,16 +54,15 @@ fn heading_config(w: &[f32; 23]) -> HeadingConfig
 fn leg_memory(m: &[f32; 18]) -> LegHeading
     ensures { result ≡ leg.memory m.now }
 {
-    let bearing = HeldNumber::from(m, 3);
-    let held = HeldLeg {
+    let held = Held {
         flag: m[0],
-        leg: Leg {
+        value: Leg {
             to_m: Vec2 { x: m[1], y: m[2] },
-            bearing_rad: bearing.angle(),
+            bearing_rad: number(m, 3),
         },
     };
     LegHeading {
-        leg: held.memory(),
+        leg: held.given(),
         stuck_s: m[5],
         yielding: m[6] != 0.0,
         wind: wind_memory(m),
@@ -110,16 +72,14 @@ fn leg_memory(m: &[f32; 18]) -> LegHeading
 fn wind_memory(m: &[f32; 18]) -> WindHeading
     ensures { result ≡ leg.wind_memory m.now }
 {
-    let side = HeldNumber::from(m, 7);
-    let target = HeldNumber::from(m, 9);
-    let weighed = HeldEstimate::from(m, 11);
     WindHeading {
-        side: side.side(),
-        target_rad: target.angle(),
-        weighed: weighed.filter(),
+        side: number(m, 7),
+        target_rad: number(m, 9),
+        weighed: estimate(m, 11),
     }
 }
 
+#[tactic(auto, unfolding(crate::specs::LegHeading::yielding_flag))]
 fn yielding_flag(yielding: bool) -> f32
     ensures { result ≡ leg.yielding_flag yielding }
 {
@@ -132,31 +92,29 @@ fn yielding_flag(yielding: bool) -> f32
 fn leg_numbers(after: LegHeading) -> [f32; 18]
     ensures { result ≡ leg.numbers after }
 {
-    let flown = after.leg;
-    let wind = after.wind;
-    let side_picked = wind.side;
-    let target_rad = wind.target_rad;
-    let weighed = wind.weighed;
-    let held = HeldLeg::of_memory(flown);
-    let leg = held.leg;
-    let bearing_rad = leg.bearing_rad;
-    let bearing = HeldNumber::of_angle(bearing_rad);
-    let side = HeldNumber::of_side(side_picked);
-    let target = HeldNumber::of_angle(target_rad);
-    let last = HeldEstimate::of_filter(weighed);
-    let estimate = last.estimate;
+    let no_leg = Leg {
+        to_m: Vec2::zeros(),
+        bearing_rad: None,
+    };
+    let held = Held::of(after.leg, no_leg);
+    let leg = held.value;
+    let bearing = Held::of(leg.bearing_rad, 0.0);
+    let side = Held::of(after.wind.side, 0.0);
+    let target = Held::of(after.wind.target_rad, 0.0);
+    let last = of_estimate(after.wind.weighed);
+    let estimate = last.value;
     [
         held.flag,
         leg.to_m.x,
         leg.to_m.y,
         bearing.flag,
-        bearing.number,
+        bearing.value,
         after.stuck_s,
         yielding_flag(after.yielding),
         side.flag,
-        side.number,
+        side.value,
         target.flag,
-        target.number,
+        target.value,
         last.flag,
         estimate.velocity_mps.x,
         estimate.velocity_mps.y,

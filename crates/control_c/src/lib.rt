@@ -15,11 +15,12 @@ use altitude::{
     AltitudeControl, AltitudeController, AltitudeControllerConfig, AltitudeEstimate, AltitudeTarget,
 };
 use controllers::Gains;
+use controllers::derivative::DerivativeState;
 use lateral::{
     LateralControl, LateralController, LateralControllerConfig, LateralEstimate, LateralTarget,
 };
 use math::vectors::{Quaternion, Vec2};
-use memory::Held;
+use memory::{Held, vector};
 
 #[unsafe(no_mangle)]
 pub extern "C" fn tarragonhoe_wrap_angle(angle: f32) -> f32
@@ -83,18 +84,12 @@ pub extern "C" fn tarragonhoe_lateral(m: &mut [f32; 12], w: &[f32; 20])
 fn controller(m: &[f32; 12]) -> LateralController
     ensures { result ≡ calls.memory m.now }
 {
-    let history = Held {
-        flag: m[2],
-        vector: Vec2 { x: m[3], y: m[4] },
-    };
-    let shaped = Held {
-        flag: m[5],
-        vector: Vec2 { x: m[6], y: m[7] },
-    };
     LateralController {
         integrated_error: Vec2 { x: m[0], y: m[1] },
-        derivative: history.history(),
-        shaped_velocity_mps: shaped.shaped(),
+        derivative: DerivativeState {
+            previous_error: vector(m, 2),
+        },
+        shaped_velocity_mps: vector(m, 5),
         commanded_velocity_mps: Vec2 { x: m[8], y: m[9] },
     }
 }
@@ -131,19 +126,17 @@ fn numbers(call: LateralControl) -> [f32; 12]
     ensures { result ≡ calls.lateral_numbers call }
 {
     let after = call.controller;
-    let derivative = after.derivative;
-    let shaped_velocity = after.shaped_velocity_mps;
-    let history = Held::of_history(derivative);
-    let shaped = Held::of_shaped(shaped_velocity);
+    let history = Held::of(after.derivative.previous_error, Vec2::zeros());
+    let shaped = Held::of(after.shaped_velocity_mps, Vec2::zeros());
     [
         after.integrated_error.x,
         after.integrated_error.y,
         history.flag,
-        history.vector.x,
-        history.vector.y,
+        history.value.x,
+        history.value.y,
         shaped.flag,
-        shaped.vector.x,
-        shaped.vector.y,
+        shaped.value.x,
+        shaped.value.y,
         after.commanded_velocity_mps.x,
         after.commanded_velocity_mps.y,
         call.accel_mps2.x,

@@ -8,9 +8,14 @@ use Rattle.math.specs.Math.{zero, one, half_pi}
 unfoldable pub check_limit : Float → Bool
 check_limit value = le zero value && finite value
 
+-- above a number, and finite
+unfoldable pub above : Float → Float → Bool
+above least value = lt least value && finite value
+
 -- positive and finite
 unfoldable pub check_positive : Float → Bool
-check_positive value = lt zero value && finite value
+unfolding above
+check_positive value = above zero value
 
 -- in (0, 1]
 unfoldable pub check_unit_interval : Float → Bool

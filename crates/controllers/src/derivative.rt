@@ -6,10 +6,9 @@ ghost use Rattle.controllers.specs.Derivative.{step, forget};
 use math::vectors::Vec2;
 
 // The error of the last step; none at first and after a step whose error was not finite.
-#[derive(Clone, Copy)]
-pub enum DerivativeState {
-    Empty,
-    Previous(Vec2),
+#[derive(Clone, Copy, Default)]
+pub struct DerivativeState {
+    pub previous_error: Option<Vec2>,
 }
 
 // The history after a step, and the derivative.
@@ -21,19 +20,18 @@ pub struct DerivativeStep {
 
 impl DerivativeState {
     // (error - previous) / dt, or zero with no history; `error` is kept for the next step.
+    #[tactic(auto, unfolding(crate::specs::Derivative::step, crate::specs::Derivative::difference_over))]
     pub fn step(self, error: Vec2, dt: f32) -> DerivativeStep
         ensures { result ≡ step self error dt }
     {
-        let DerivativeState::Previous(previous) = self else {
-            return DerivativeStep {
-                state: DerivativeState::Previous(error),
-                derivative: Vec2::zeros(),
-            };
-        };
-        let difference = error.minus(previous);
+        let derivative = self
+            .previous_error
+            .map_or(Vec2::zeros(), |previous| (error - previous) / dt);
         DerivativeStep {
-            state: DerivativeState::Previous(error),
-            derivative: difference.over(dt),
+            state: DerivativeState {
+                previous_error: Some(error),
+            },
+            derivative,
         }
     }
 
@@ -41,6 +39,6 @@ impl DerivativeState {
     pub fn forget() -> DerivativeState
         ensures { result ≡ forget }
     {
-        DerivativeState::Empty
+        DerivativeState::default()
     }
 }

@@ -1,35 +1,27 @@
 -- Document 01's "What each call does", sentence by sentence: `EachCraft` is what holds of a craft, `EachCall` of an accepted call that it gets. Both hold of
 -- every craft that a list of records leads to (proofs/Laws/Facts.antt, and records/specs/Facts.antt over whole lists). Assumes nothing.
-use Rattle.std.specs.Prelude.{◌<◌, ◌≡◌, Bool, true, false, not, cond, ◌&&◌, ◌⊎◌, T, Float}
+use Rattle.std.specs.Prelude.{◌<◌, ◌≡◌, Bool, true, false, not, cond, ◌&&◌, ◌⊎◌, T, Float, None, Option, Some}
 use Rattle.std.specs.Float.{nan}
 use Rattle.std.specs.Float.Ieee.{neg, lt, le, is_nan}
 use Rattle.std.specs.Float.Ieee.Scale.{finite}
+use Rattle.controllers.specs.Derivative.{no_history}
 use Rattle.floats.specs.Ops.{◌⊕◌, ◌⊖◌, ◌⊗◌}
 use Rattle.floats.specs.Compare.{abs, signum}
 use Rattle.math.specs.Math.{zero, half, one, pi, saturate_unit, all_finite, wrap_angle}
 use Rattle.math.specs.Vectors.{zeros, minus}
 use Rattle.math.specs.declared.vectors.Vec2.{Vec2}
 use Rattle.math.specs.declared.vectors.Vec3.{Vec3}
-use Rattle.controllers.specs.RateDivider.{due, Legal, Bounded}
+use Rattle.controllers.specs.RateDivider.{never_ran, elapsed, due, Legal, Bounded}
 use Rattle.controllers.specs.declared.rate_divider.RateDivider.{RateDivider}
-use Rattle.controllers.specs.declared.rate_divider.RateDivider.TheVariants.{NeverRan, Elapsed}
-use Rattle.controllers.specs.declared.rate_divider.Due.TheVariants.{Step, NotYet}
 use Rattle.controllers.specs.declared.rate_divider.Paced.{Paced}
-use Rattle.controllers.specs.declared.derivative.DerivativeState.TheVariants.{Empty}
-use Rattle.lateral.specs.declared.ShapedVelocity.TheVariants as shaped
 use Rattle.altitude.specs.declared.AltitudeTarget.{AltitudeTarget}
 use Rattle.wind.specs.Window.{Updated}
 use Rattle.wind.specs.declared.state.VehicleState.{VehicleState}
-use Rattle.wind.specs.declared.window.Filter.TheVariants as filters
 use Rattle.heading.specs.HoverWind.{FiniteGround}
 use Rattle.heading.specs.HoverWind as hover
 use Rattle.heading.specs.LegHeading.{New, started, on_leg, here_of, finite_angle, may_yield}
 use Rattle.heading.specs.LegHeading as leg
-use Rattle.heading.specs.declared.Angle.{Angle}
-use Rattle.heading.specs.declared.Angle.TheVariants as angles
-use Rattle.heading.specs.declared.wind_heading.Side.TheVariants.{Unpicked}
 use Rattle.heading.specs.declared.leg_heading.Leg.{Leg}
-use Rattle.heading.specs.declared.leg_heading.LegMemory.TheVariants as legs
 use Rattle.heading.specs.declared.leg_heading.LegHeading.{LegHeading}
 use Rattle.heading.specs.declared.leg_heading.Bearing.{Bearing}
 use Rattle.heading.specs.declared.leg_heading.Turn.{Turn}
@@ -37,13 +29,10 @@ use Rattle.copter.specs.declared.commands.AttitudeCommand.{AttitudeCommand}
 use Rattle.copter.specs.declared.commands.WaypointCommand.{WaypointCommand}
 use Rattle.copter.specs.declared.commands.LandCommand.{LandCommand}
 use Rattle.copter.specs.declared.commands.AbsoluteRateCommand.{AbsoluteRateCommand}
-use Rattle.copter.specs.declared.commands.TargetVelocity.TheVariants as velocities
 use Rattle.copter.specs.declared.commands.Command.{Command}
 use Rattle.copter.specs.declared.commands.Command.TheVariants as commands
 use Rattle.copter.specs.declared.commands.Setpoint.{Setpoint}
 use Rattle.copter.specs.declared.commands.Setpoint.TheVariants.{Attitude, BodyRate}
-use Rattle.copter.specs.declared.memory.AltitudeHold.{AltitudeHold}
-use Rattle.copter.specs.declared.memory.AltitudeHold.TheVariants as hold
 use Rattle.copter.specs.declared.memory.LateralMemory.{LateralMemory}
 use Rattle.copter.specs.declared.memory.Memory.{Memory}
 use Rattle.copter.specs.declared.memory.CopterGuidance.{CopterGuidance}
@@ -57,9 +46,9 @@ use Rattle.copter.specs.Guide.{command_heading, wind_updated, navigated_thrust, 
 -- ---- every craft
 
 -- none, or a finite height
-abbrev pub NoneOrFinite : AltitudeHold → Type 0
-NoneOrFinite hold.Nothing = Unit {0}
-NoneOrFinite (hold.Height height) = T (finite height)
+abbrev pub NoneOrFinite : Option Float → Type 0
+NoneOrFinite None = Unit {0}
+NoneOrFinite (Some height) = T (finite height)
 
 -- within a limit, and never a NaN
 abbrev pub WithinLimit : Float → Float → Type 0
@@ -74,7 +63,7 @@ pub record EachCraft (self : CopterGuidance) : Type 0 where
   pub altitude_integral : WithinLimit self.config.altitude.max_integral self.memory.vertical.controller.integrated_error
   pub lateral_integral_x : WithinLimit self.config.lateral.max_integral self.memory.lateral.controller.integrated_error.x
   pub lateral_integral_y : WithinLimit self.config.lateral.max_integral self.memory.lateral.controller.integrated_error.y
-  -- Elapsed stays ≤ 16,777,216.
+  -- elapsed stays ≤ 16,777,216.
   pub elapsed : Bounded self.memory.lateral.rate
   -- An open wind window has fewer than 820 accepted samples.
   pub window : self.memory.wind.estimator.window.ticks < 820
@@ -121,15 +110,15 @@ land_turn self dt state =
 -- no leg, no yield count and no yielding, and of the wind no side, no heading and no estimate weighed
 abbrev pub leg_reset : LegHeading
 leg_reset =
-    record { leg = legs.Nothing; stuck_s = zero; yielding = false; wind = record { side = Unpicked; target_rad = angles.Nothing; weighed = filters.Nothing } }
+    record { leg = None; stuck_s = zero; yielding = false; wind = record { side = None; target_rad = None; weighed = None } }
 
 -- Altitude and lateral memory, requested acceleration, altitude target, descent speed, rate divider and leg heading are reset. Stored tilt is not.
 pub record Resets (before after : Memory) : Type 0 where
-  pub altitude : after.vertical ≡ record { controller = record { integrated_error = zero }; target = hold.Nothing; descent_speed_mps = zero }
+  pub altitude : after.vertical ≡ record { controller = record { integrated_error = zero }; target = None; descent_speed_mps = zero }
   pub lateral : after.lateral.controller
-      ≡ record { integrated_error = zeros; derivative = Empty; shaped_velocity_mps = shaped.Nothing; commanded_velocity_mps = zeros }
+      ≡ record { integrated_error = zeros; derivative = no_history; shaped_velocity_mps = None; commanded_velocity_mps = zeros }
   pub requested : after.lateral.requested_accel_mps2 ≡ zeros
-  pub divider : after.lateral.rate ≡ NeverRan
+  pub divider : after.lateral.rate ≡ never_ran
   pub leg_heading : after.leg_heading ≡ leg_reset
   pub tilt_stays : after.lateral.tilt_rad ≡ before.lateral.tilt_rad
   pub capped_stays : after.lateral.tilt_capped ≡ before.lateral.tilt_capped
@@ -189,24 +178,24 @@ pub record NotDue (before : LateralMemory) (rate : RateDivider) (after : Guided)
 
 -- A due call with finite numbers: the divider is restarted, and the tilt that is answered is stored.
 pub record Runs (after : Guided) : Type 0 where
-  pub restarted : after.craft.memory.lateral.rate ≡ Elapsed zero
+  pub restarted : after.craft.memory.lateral.rate ≡ elapsed zero
   pub stored : Tilts after.setpoint after.craft.memory.lateral.tilt_rad
 
 pub record LateralCall (self : CopterGuidance) (dt : Float) (state : VehicleState) (course : Course) (after : Guided) : Type 0 where
   -- The divider's first call is due with dt; later it is due exactly when elapsed ≥ period - 0.5 × dt.
-  pub first_due : self.memory.lateral.rate ≡ NeverRan → (paced self dt).due ≡ Step dt
-  pub later_due : (before : Float) → self.memory.lateral.rate ≡ Elapsed before →
+  pub first_due : self.memory.lateral.rate ≡ never_ran → (paced self dt).due ≡ Some dt
+  pub later_due : (before : Float) → self.memory.lateral.rate ≡ elapsed before →
       let elapsed = before ⊕ dt in
-      (paced self dt).due ≡ cond (le (self.config.guidance.navigation_period_s ⊖ half ⊗ dt) elapsed) (Step elapsed) NotYet
-  -- Elapsed is always a legal step.
-  pub legal : (step : Float) → (paced self dt).due ≡ Step step → Legal step
-  pub not_due : (paced self dt).due ≡ NotYet → NotDue self.memory.lateral (paced self dt).divider after
-  pub runs : (step : Float) → (paced self dt).due ≡ Step step → T (able course state) → Runs after
-  pub not_run : (step : Float) → (paced self dt).due ≡ Step step → T (not (able course state))
+      (paced self dt).due ≡ cond (le (self.config.guidance.navigation_period_s ⊖ half ⊗ dt) elapsed) (Some elapsed) None
+  -- elapsed is always a legal step.
+  pub legal : (step : Float) → (paced self dt).due ≡ Some step → Legal step
+  pub not_due : (paced self dt).due ≡ None → NotDue self.memory.lateral (paced self dt).divider after
+  pub runs : (step : Float) → (paced self dt).due ≡ Some step → T (able course state) → Runs after
+  pub not_run : (step : Float) → (paced self dt).due ≡ Some step → T (not (able course state))
       → NotRun self.memory.lateral (paced self dt).divider after
   -- A first call then leaves the next one due.
-  pub first_leaves_due : self.memory.lateral.rate ≡ NeverRan → T (not (able course state)) → (next period : Float)
-      → (due after.craft.memory.lateral.rate next period).due ≡ Step next
+  pub first_leaves_due : self.memory.lateral.rate ≡ never_ran → T (not (able course state)) → (next period : Float)
+      → (due after.craft.memory.lateral.rate next period).due ≡ Some next
   pub flags_capped : after.flags.tilt ≡ after.craft.memory.lateral.tilt_capped
 
 -- ---- waypoint and land: altitude and thrust
@@ -219,12 +208,12 @@ NanOrFrom least x = (x ≡ nan) ⊎ (T (le least x) × T (le x one))
 pub record Holds (self : CopterGuidance) (dt : Float) (state : VehicleState) (target : AltitudeTarget) (after : Guided) : Type 0 where
   pub thrust : thrust_of after.setpoint
       ≡ (navigated_thrust (altitude_control self.memory.vertical self.config dt target state).thrust self.config.thrust.min_thrust).value
-  pub no_target : after.craft.memory.vertical.target ≡ hold.Nothing
+  pub no_target : after.craft.memory.vertical.target ≡ None
   pub at_rest : after.craft.memory.vertical.descent_speed_mps ≡ zero
 
 -- no target, and no finite altitude
 pub record NoAltitude (self : CopterGuidance) (state : VehicleState) : Type 0 where
-  pub no_target : self.memory.vertical.target ≡ hold.Nothing
+  pub no_target : self.memory.vertical.target ≡ None
   pub not_finite : T (not (finite state.position_m.z))
 
 -- ---- waypoint: legs and yields
@@ -233,7 +222,7 @@ pub record NoAltitude (self : CopterGuidance) (state : VehicleState) : Type 0 wh
 abbrev pub leg_flown : CopterGuidance → VehicleState → WaypointCommand → Bearing
 leg_flown self state command = leg.bearing self.memory.leg_heading self.config.guidance.heading command.position_m (here_of state)
 
-abbrev pub wind_heading : CopterGuidance → Float → VehicleState → WaypointCommand → Angle
+abbrev pub wind_heading : CopterGuidance → Float → VehicleState → WaypointCommand → Option Float
 wind_heading self dt state command =
     (leg.wind_turn (leg_flown self state command) self.config.guidance.heading command.position_m
     (hover.estimate (wind_updated self.memory self.config dt state)) state
@@ -269,8 +258,8 @@ pub record NewPosition (self : CopterGuidance) (dt : Float) (state : VehicleStat
   pub not_yielding : (leg_flown self state command).memory.yielding ≡ false
   pub as_cleared : after ≡ waypoint_call (leg_cleared self) dt state command
   pub starts_leg : all_finite (here_of state) ≡ true
-      → after.craft.memory.leg_heading.leg ≡ legs.Flown (started self.config.guidance.heading command.position_m (here_of state))
-  pub no_leg : all_finite (here_of state) ≡ false → after.craft.memory.leg_heading.leg ≡ legs.Nothing
+      → after.craft.memory.leg_heading.leg ≡ Some (started self.config.guidance.heading command.position_m (here_of state))
+  pub no_leg : all_finite (here_of state) ≡ false → after.craft.memory.leg_heading.leg ≡ None
 
 -- the heading that a setpoint asks for
 abbrev pub Points : Setpoint → Float → Type 0
@@ -283,23 +272,23 @@ AnswersHeading after = Points after.setpoint after.craft.memory.heading_rad
 
 -- A call with no finite commanded heading, to which the wind gives none, of a craft with a finite heading and a positive field 31.
 pub record LegCall (self : CopterGuidance) (dt : Float) (state : VehicleState) (command : WaypointCommand) : Type 0 where
-  pub uncommanded : finite_angle command.heading_rad ≡ angles.Nothing
-  pub no_wind_heading : wind_heading self dt state command ≡ angles.Nothing
+  pub uncommanded : finite_angle command.heading_rad ≡ None
+  pub no_wind_heading : wind_heading self dt state command ≡ None
   pub may_yield : may_yield self.config.guidance.heading state ≡ true
 
 pub record Legs (self : CopterGuidance) (dt : Float) (state : VehicleState) (command : WaypointCommand) (after : Guided) : Type 0 where
   -- With no finite commanded heading, a new waypoint position ..
-  pub new_position : finite_angle command.heading_rad ≡ angles.Nothing → New self.memory.leg_heading.leg command.position_m
+  pub new_position : finite_angle command.heading_rad ≡ None → New self.memory.leg_heading.leg command.position_m
       → NewPosition self dt state command after
   -- With no leg remembered every position is new, and a NaN position is new on every call.
-  pub new_without_leg : self.memory.leg_heading.leg ≡ legs.Nothing → New self.memory.leg_heading.leg command.position_m
+  pub new_without_leg : self.memory.leg_heading.leg ≡ None → New self.memory.leg_heading.leg command.position_m
   pub nan_is_new : T (is_nan command.position_m.x) ⊎ T (is_nan command.position_m.y)
       → New self.memory.leg_heading.leg command.position_m
   -- On the leg it stays.
-  pub stays_on_leg : (flown : Leg) → finite_angle command.heading_rad ≡ angles.Nothing → self.memory.leg_heading.leg ≡ legs.Flown flown
-      → on_leg flown command.position_m ≡ true → after.craft.memory.leg_heading.leg ≡ legs.Flown flown
+  pub stays_on_leg : (flown : Leg) → finite_angle command.heading_rad ≡ None → self.memory.leg_heading.leg ≡ Some flown
+      → on_leg flown command.position_m ≡ true → after.craft.memory.leg_heading.leg ≡ Some flown
   -- A finite commanded heading resets the leg heading.
-  pub commanded_resets : (heading : Float) → finite_angle command.heading_rad ≡ angles.Rad heading → after.craft.memory.leg_heading ≡ leg_reset
+  pub commanded_resets : (heading : Float) → finite_angle command.heading_rad ≡ Some heading → after.craft.memory.leg_heading ≡ leg_reset
   -- The yield count goes on by dt while the craft cannot bring its nose round, else it is 0; with the first count above field 31 the call yields.
   pub counts : LegCall self dt state command → (leg_flown self state command).memory.yielding ≡ false →
       let config = self.config.guidance.heading in
@@ -307,7 +296,7 @@ pub record Legs (self : CopterGuidance) (dt : Float) (state : VehicleState) (com
       (after.craft.memory.leg_heading.stuck_s ≡ count)
       × (after.craft.memory.leg_heading.yielding ≡ lt config.heading_yield_s count)
   -- Yielding lasts until the position changes.
-  pub yielding_lasts : (flown : Leg) → finite_angle command.heading_rad ≡ angles.Nothing → self.memory.leg_heading.leg ≡ legs.Flown flown
+  pub yielding_lasts : (flown : Leg) → finite_angle command.heading_rad ≡ None → self.memory.leg_heading.leg ≡ Some flown
       → on_leg flown command.position_m ≡ true → self.memory.leg_heading.yielding ≡ true
       → after.craft.memory.leg_heading.yielding ≡ true
   -- A craft that yields flies on as it points.
@@ -318,7 +307,7 @@ pub record Legs (self : CopterGuidance) (dt : Float) (state : VehicleState) (com
 
 -- no target velocity, and a cruise speed of 0, which means no cap
 abbrev pub land_course : LandCommand → Course
-land_course command = record { position_m = command.position_m; velocity_mps = velocities.Nothing; cruise_speed_mps = zero }
+land_course command = record { position_m = command.position_m; velocity_mps = None; cruise_speed_mps = zero }
 
 abbrev pub waypoint_course : WaypointCommand → Course
 waypoint_course command =

@@ -1,18 +1,18 @@
 -- The 50 fields of a configuration in document 01's order: the rule and the default of each, said once, and the configuration that 50 numbers make. The
 -- rules are those of the Rust for 7 and 11 to 41, and document 01's own for the rest. Assumes nothing.
-use Rattle.std.specs.Prelude.{ℕ, zero, suc, ◌-◌, Bool, true, cond, ◌&&◌, List, [], ◌∷◌, map, T, get_or, Float}
+use Rattle.std.specs.Prelude.{ℕ, zero, suc, ◌-◌, Bool, true, cond, ◌&&◌, List, [], ◌∷◌, map, T, get_or, Float, leb, Option, Some, None}
 use Rattle.std.specs.Float.{nan}
 use Rattle.std.specs.Float.Ieee.{lt, le}
-use Rattle.std.specs.Float.Ieee.Scale.{finite}
 use Rattle.floats.specs.Ops.{f32}
 use Rattle.math.specs.Math as math
-use Rattle.controllers.specs.Checks.{check_limit, check_positive, check_unit_interval, check_tilt}
+use Rattle.controllers.specs.Checks.{check_limit, above, check_positive, check_unit_interval, check_tilt}
 use Rattle.altitude.specs.declared.AltitudeControllerConfig.{AltitudeControllerConfig}
 use Rattle.lateral.specs.declared.LateralControllerConfig.{LateralControllerConfig}
 use Rattle.wind.specs.declared.drag.WindConfig.{WindConfig}
 use Rattle.heading.specs.declared.HeadingConfig.{HeadingConfig}
 use Rattle.copter.specs.declared.config.Rule.{Rule}
 use Rattle.copter.specs.declared.config.Rule.TheVariants.{Anything, Limit, Positive, UnitInterval, Tilt, BelowOne, AboveDescending, UpToPi}
+use Rattle.copter.specs.declared.config.Field.{Field}
 use Rattle.copter.specs.declared.config.ThrustLimits.{ThrustLimits}
 use Rattle.copter.specs.declared.config.GuidanceConfig.{GuidanceConfig}
 use Rattle.copter.specs.declared.config.CopterGuidanceConfig.{CopterGuidanceConfig}
@@ -25,13 +25,15 @@ below_one value = le math.zero value && lt value math.one
 
 -- above 0.2 m/s and finite
 unfoldable pub above_descending : Float → Bool
-above_descending value = lt (f32 0x3E4C_CCCD) value && finite value
+unfolding above
+above_descending value = above (f32 0x3E4C_CCCD) value
 
 -- in [0, π]
 unfoldable pub up_to_pi : Float → Bool
 up_to_pi value = le math.zero value && le value math.pi
 
 unfoldable pub keeps : Rule → Float → Bool
+unfolding below_one above_descending up_to_pi
 keeps Anything value = true
 keeps Limit value = check_limit value
 keeps Positive value = check_positive value
@@ -43,13 +45,9 @@ keeps UpToPi value = up_to_pi value
 
 -- ---- the fields
 
-pub record Field : Type 0 where
-  pub rule : Rule
-  pub default : Float
-
 -- a field's rule, and its default by its bits
 abbrev pub field : Rule → ℕ → Field
-field rule bits = record { rule = rule; default = f32 bits }
+field rule bits = record { 0 = rule; 1 = f32 bits }
 
 abbrev pub field_count : ℕ
 field_count = 50
@@ -110,11 +108,11 @@ fields =
 
 unfoldable pub rules : List Rule
 unfolding fields
-rules = map (λ (f : Field). f.rule) fields
+rules = map (λ (f : Field). f.0) fields
 
 unfoldable pub defaults : List Float
 unfolding fields
-defaults = map (λ (f : Field). f.default) fields
+defaults = map (λ (f : Field). f.1) fields
 
 -- field n of a list of numbers, counted from 1
 abbrev pub nth : List Float → ℕ → Float
@@ -129,6 +127,12 @@ rule n value = keeps (get_or rules (n - 1) Anything) value
 unfoldable pub lowest : List Float → ℕ → ℕ → ℕ
 lowest values n zero = n
 lowest values n (suc d) = cond (rule n (nth values n)) (lowest values (suc n) d) n
+
+-- The lowest of all fields that breaks its rule, if one does.
+unfoldable pub lowest_broken : List Float → Option ℕ
+lowest_broken values =
+    let field = lowest values 1 field_count in
+    cond (leb field field_count) (Some field) None
 
 -- ---- the configuration of 50 numbers
 

@@ -1,5 +1,5 @@
 -- What each call does, from document 01 and copter.rs. Assumes nothing.
-use Rattle.std.specs.Prelude.{false, cond, ◌||◌, Float}
+use Rattle.std.specs.Prelude.{false, cond, ◌||◌, Float, None, Option}
 use Rattle.std.specs.Float.Ieee.{le}
 use Rattle.std.specs.Float.Ieee.Scale.{finite}
 use Rattle.floats.specs.Ops.{◌⊕◌, ◌⊗◌}
@@ -8,13 +8,11 @@ use Rattle.altitude.specs.Altitude.{control}
 use Rattle.altitude.specs.declared.AltitudeTarget.{AltitudeTarget}
 use Rattle.altitude.specs.declared.AltitudeControl.{AltitudeControl}
 use Rattle.wind.specs.declared.state.VehicleState.{VehicleState}
-use Rattle.wind.specs.declared.window.Filter.{Filter}
 use Rattle.heading.specs.HoverWind as hover
 use Rattle.heading.specs.LegHeading as leg
 use Rattle.heading.specs.declared.hover_wind.HoverWind.{HoverWind}
 use Rattle.heading.specs.declared.leg_heading.Turn.{Turn}
 use Rattle.copter.specs.declared.commands.AttitudeCommand.{AttitudeCommand}
-use Rattle.copter.specs.declared.commands.TargetVelocity.TheVariants as velocities
 use Rattle.copter.specs.declared.commands.WaypointCommand.{WaypointCommand}
 use Rattle.copter.specs.declared.commands.AbsoluteAttitudeCommand.{AbsoluteAttitudeCommand}
 use Rattle.copter.specs.declared.commands.LandCommand.{LandCommand}
@@ -36,6 +34,7 @@ use Rattle.copter.specs.declared.guide.Guided.{Guided}
 use Rattle.copter.specs.Memory.{fresh_vertical, fresh_lateral, reset_lateral, fresh}
 use Rattle.copter.specs.Thrust.{floor_thrust, hold_piloted, hold_absolute, boosted}
 use Rattle.copter.specs.Descent.{descend_toward, land_descent}
+use Rattle.wind.specs.declared.estimate.WindEstimate.{WindEstimate}
 use Rattle.copter.specs.Tilt.{tilt_toward}
 
 -- ---- the heading target
@@ -213,7 +212,7 @@ land_call self dt state command =
     land_descent config dt vertical.target vertical.descent_speed_mps state.position_m.z state.velocity_mps.z in
     let turn =
     leg.land_target before.leg_heading dt config.guidance.heading before.heading_rad (hover.estimate wind) state in
-    let course : Course = record { position_m = command.position_m; velocity_mps = velocities.Nothing; cruise_speed_mps = zero } in
+    let course : Course = record { position_m = command.position_m; velocity_mps = None; cruise_speed_mps = zero } in
     fly_to self dt state course descended turn wind
 
 -- ---- a call with its command
@@ -245,5 +244,5 @@ prime self state =
           };
     }
 
-unfoldable pub wind_reading : CopterGuidance → Filter
+unfoldable pub wind_reading : CopterGuidance → Option WindEstimate
 wind_reading self = hover.estimate self.memory.wind

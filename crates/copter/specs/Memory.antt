@@ -1,5 +1,5 @@
 -- What guidance remembers, and what is reset, from copter.rs. Assumes nothing.
-use Rattle.std.specs.Prelude.{false}
+use Rattle.std.specs.Prelude.{false, None}
 use Rattle.math.specs.Math.{zero}
 use Rattle.math.specs.Vectors.{zeros}
 use Rattle.controllers.specs.RateDivider.{reset}
@@ -7,14 +7,13 @@ use Rattle.altitude.specs.Altitude as altitude
 use Rattle.lateral.specs.Lateral as lateral
 use Rattle.heading.specs.LegHeading as leg
 use Rattle.heading.specs.HoverWind as wind
-use Rattle.copter.specs.declared.memory.AltitudeHold.TheVariants as hold
 use Rattle.copter.specs.declared.memory.VerticalMemory.{VerticalMemory}
 use Rattle.copter.specs.declared.memory.LateralMemory.{LateralMemory}
 use Rattle.copter.specs.declared.memory.Memory.{Memory}
 
 -- the vertical loop as it starts, with no target
 unfoldable pub fresh_vertical : VerticalMemory
-fresh_vertical = record { controller = altitude.fresh; target = hold.Nothing; descent_speed_mps = zero }
+fresh_vertical = record { controller = altitude.fresh; target = None; descent_speed_mps = zero }
 
 -- the lateral loop before its first run
 unfoldable pub fresh_lateral : LateralMemory

@@ -1,12 +1,10 @@
 -- How a thrust is boosted, clipped, floored and guarded, from copter.rs. Assumes nothing.
-use Rattle.std.specs.Prelude.{true, false, cond, ◌||◌, Float}
+use Rattle.std.specs.Prelude.{true, false, cond, ◌||◌, Float, None, Option, Some}
 use Rattle.std.specs.Float.Ieee.{lt}
 use Rattle.floats.specs.Ops.{◌⊗◌}
 use Rattle.floats.specs.MinMax.{max}
 use Rattle.math.specs.Math.{zero, one, tilt_boost, saturate_throttle, guard_sink}
 use Rattle.math.specs.declared.vectors.Quaternion.{Quaternion}
-use Rattle.math.specs.declared.SinkGuard.{SinkGuard}
-use Rattle.math.specs.declared.SinkGuard.TheVariants.{Raised, Off}
 use Rattle.copter.specs.declared.config.ThrustLimits.{ThrustLimits}
 use Rattle.copter.specs.declared.config.CopterGuidanceConfig.{CopterGuidanceConfig}
 use Rattle.copter.specs.declared.thrust.Thrust.{Thrust}
@@ -26,9 +24,9 @@ boost throttle attitude max_boost =
 unfoldable pub floor_thrust : Float → Float → Thrust
 floor_thrust thrust least = cond (lt thrust least) (record { value = least; saturated = true }) (record { value = thrust; saturated = false })
 
-unfoldable pub guarded_by : SinkGuard → Thrust → Thrust
-guarded_by Off thrust = thrust
-guarded_by (Raised value) thrust = record { value = value; saturated = true }
+unfoldable pub guarded_by : Option Float → Thrust → Thrust
+guarded_by None thrust = thrust
+guarded_by (Some value) thrust = record { value = value; saturated = true }
 
 unfoldable pub guarded : Thrust → Float → ThrustLimits → Thrust
 unfolding guarded_by

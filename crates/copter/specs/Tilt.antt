@@ -1,5 +1,5 @@
 -- The tilt toward a waypoint, from copter.rs. Assumes nothing.
-use Rattle.std.specs.Prelude.{Bool, false, cond, ◌&&◌, Float}
+use Rattle.std.specs.Prelude.{Bool, false, cond, ◌&&◌, Float, None, Option, Some}
 use Rattle.std.specs.Float.Ieee.{neg, lt, eq}
 use Rattle.std.specs.Float.Ieee.Scale.{finite}
 use Rattle.floats.specs.Ops.{◌⊕◌, ◌⊖◌, ◌⊗◌, ◌⊘◌}
@@ -10,21 +10,16 @@ use Rattle.math.specs.Vectors.{zeros, plus, minus, times, norm}
 use Rattle.math.specs.declared.vectors.Vec2.{Vec2}
 use Rattle.controllers.specs.RateDivider.{due, ran}
 use Rattle.controllers.specs.declared.rate_divider.RateDivider.{RateDivider}
-use Rattle.controllers.specs.declared.rate_divider.Due.{Due}
-use Rattle.controllers.specs.declared.rate_divider.Due.TheVariants.{Step, NotYet}
 use Rattle.lateral.specs.Lateral.{control}
 use Rattle.lateral.specs.declared.LateralTarget.{LateralTarget}
 use Rattle.lateral.specs.declared.LateralEstimate.{LateralEstimate}
 use Rattle.wind.specs.Drag.{drag}
 use Rattle.wind.specs.declared.drag.WindConfig.{WindConfig}
 use Rattle.wind.specs.declared.state.VehicleState.{VehicleState}
-use Rattle.wind.specs.declared.window.Filter.{Filter}
-use Rattle.wind.specs.declared.window.Filter.TheVariants as filters
-use Rattle.copter.specs.declared.commands.TargetVelocity.{TargetVelocity}
-use Rattle.copter.specs.declared.commands.TargetVelocity.TheVariants as velocities
 use Rattle.copter.specs.declared.config.CopterGuidanceConfig.{CopterGuidanceConfig}
 use Rattle.copter.specs.declared.memory.LateralMemory.{LateralMemory}
 use Rattle.copter.specs.declared.tilt.Course.{Course}
+use Rattle.wind.specs.declared.estimate.WindEstimate.{WindEstimate}
 use Rattle.copter.specs.declared.tilt.Tilted.{Tilted}
 
 -- ---- an acceleration to a tilt
@@ -58,13 +53,13 @@ drag_feedforward config band commanded wind heading =
 
 -- ---- the lateral loop
 
-unfoldable pub velocity_or_zero : TargetVelocity → Vec2
-velocity_or_zero velocities.Nothing = zeros
-velocity_or_zero (velocities.Mps velocity) = velocity
+unfoldable pub velocity_or_zero : Option Vec2 → Vec2
+velocity_or_zero None = zeros
+velocity_or_zero (Some velocity) = velocity
 
-unfoldable pub wind_or_zero : Filter → Vec2
-wind_or_zero filters.Nothing = zeros
-wind_or_zero (filters.Estimate estimate) = estimate.velocity_mps
+unfoldable pub wind_or_zero : Option WindEstimate → Vec2
+wind_or_zero None = zeros
+wind_or_zero (Some estimate) = estimate.velocity_mps
 
 unfoldable pub lateral_target : Course → LateralTarget
 lateral_target course =
@@ -143,14 +138,14 @@ levelled self rate =
       tilt_rad = zeros;
     }
 
-unfoldable pub tilted_when : Due → LateralMemory → RateDivider → CopterGuidanceConfig → Course → Filter → VehicleState → Tilted
-tilted_when NotYet self rate config course estimate state = held self rate
-tilted_when (Step step) self rate config course estimate state =
+unfoldable pub tilted_when : Option Float → LateralMemory → RateDivider → CopterGuidanceConfig → Course → Option WindEstimate → VehicleState → Tilted
+tilted_when None self rate config course estimate state = held self rate
+tilted_when (Some step) self rate config course estimate state =
     let target = lateral_target course in
     let own = lateral_estimate state in
     cond (navigable target own state.heading_rad) (run self config step target own (wind_or_zero estimate) state.heading_rad) (levelled self rate)
 
-unfoldable pub tilt_toward : LateralMemory → CopterGuidanceConfig → Float → Course → Filter → VehicleState → Tilted
+unfoldable pub tilt_toward : LateralMemory → CopterGuidanceConfig → Float → Course → Option WindEstimate → VehicleState → Tilted
 unfolding tilted_when
 tilt_toward self config dt course estimate state =
     let paced = due self.rate dt config.guidance.navigation_period_s in

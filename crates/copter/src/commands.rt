@@ -1,5 +1,4 @@
 // The commands of the five calls, and what a call answers.
-use heading::Angle;
 use math::vectors::Vec2;
 
 // Sticks: the throttle in [0, 1], the others in [-1, 1].
@@ -11,20 +10,14 @@ pub struct AttitudeCommand {
     pub yaw: f32,
 }
 
-// The target's own velocity, or none.
-#[derive(Clone, Copy)]
-pub enum TargetVelocity {
-    Nothing,
-    Mps(Vec2),
-}
-
+// A position, with the target's own velocity and a heading where they are given.
 #[derive(Clone, Copy)]
 pub struct WaypointCommand {
     pub position_m: Vec2,
-    pub velocity_mps: TargetVelocity,
+    pub velocity_mps: Option<Vec2>,
     pub altitude_m: f32,
     pub cruise_speed_mps: f32,
-    pub heading_rad: Angle,
+    pub heading_rad: Option<f32>,
 }
 
 #[derive(Clone, Copy)]
@@ -58,6 +51,7 @@ pub enum Command {
     AbsoluteRate(AbsoluteRateCommand),
 }
 
+// A setpoint is flown and a command is asked for, so they are two types where their fields are alike too.
 #[derive(Clone, Copy)]
 pub struct AttitudeSetpoint {
     pub roll_rad: f32,

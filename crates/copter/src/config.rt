@@ -1,11 +1,11 @@
 // The configuration: its fields in document 01's order, the rule and the default of each.
 ghost use Rattle.std.specs.Prelude.{◌≡◌};
-ghost use Rattle.copter.specs.Config.{below_one, above_descending, up_to_pi, keeps, lowest, field_count};
+ghost use Rattle.copter.specs.Config.{keeps, lowest_broken};
 ghost use Rattle.copter.specs.Config.{altitude_of, lateral_of, heading_of, guidance_of, thrust_of, wind_of, config_of, default_config};
 
 use altitude::AltitudeControllerConfig;
 use controllers::Gains;
-use controllers::checks::{check_limit, check_positive, check_tilt, check_unit_interval};
+use controllers::checks::{above, check_limit, check_positive, check_tilt, check_unit_interval};
 use heading::HeadingConfig;
 use lateral::LateralControllerConfig;
 use math::vectors::Vec2;
@@ -49,7 +49,7 @@ pub struct CopterGuidanceConfig {
 }
 
 // What a field takes.
-#[derive(Clone, Copy)]
+#[derive(Clone, Copy, PartialEq, Eq, Debug)]
 pub enum Rule {
     Anything,
     // Non-negative and finite.
@@ -68,145 +68,71 @@ pub enum Rule {
     UpToPi,
 }
 
-// How many fields a configuration has, and the number of the last. Field n stands at n - 1 in a list of them.
+// How many fields a configuration has. Field n stands at n - 1 in a list of them.
 pub const FIELDS: usize = 50;
 
-pub const LAST_FIELD: u8 = 50;
+// What a field takes, and its default in the Rust.
+#[derive(Clone, Copy)]
+struct Field(Rule, f32);
 
-const RULES: [Rule; FIELDS] = [
-    Rule::Limit, // 1 altitude gains p
-    Rule::Limit, // 2 altitude gains i
-    Rule::Limit, // 3 altitude gains d
-    Rule::Limit, // 4 altitude max_integral
-    Rule::UnitInterval, // 5 hover_thrust
-    Rule::Limit, // 6 integration_band_m
-    Rule::Limit, // 7 position_p
-    Rule::Anything, // 8 velocity gains p
-    Rule::Anything, // 9 velocity gains i
-    Rule::Anything, // 10 velocity gains d
-    Rule::Limit, // 11 lateral max_integral
-    Rule::Limit, // 12 max_accel_mps2
-    Rule::Limit, // 13 brake_mps2
-    Rule::UnitInterval, // 14 braking_share
-    Rule::Limit, // 15 navigation_period_s
-    Rule::Limit, // 16 max_stick_angles_rad x
-    Rule::Limit, // 17 max_stick_angles_rad y
-    Rule::Limit, // 18 stick_yaw_rate_radps
-    Rule::BelowOne, // 19 idle_throttle
-    Rule::Tilt, // 20 max_tilt_rad
-    Rule::Positive, // 21 max_descent_mps
-    Rule::Positive, // 22 descent_accel_mps2
-    Rule::Positive, // 23 climb_decel_mps2
-    Rule::Positive, // 24 altitude_leash_m
-    Rule::AboveDescending, // 25 land_speed_mps
-    Rule::Limit, // 26 waypoint_yaw_radps
-    Rule::Positive, // 27 heading_rate_radps
-    Rule::Limit, // 28 waypoint_yaw_min_leg_m
-    Rule::Limit, // 29 heading_yield_rad
-    Rule::Limit, // 30 heading_yield_rate_radps
-    Rule::Limit, // 31 heading_yield_s
-    Rule::Limit, // 32 wind_heading_min_mps
-    Rule::UpToPi, // 33 wind_heading_from_wind_rad
-    Rule::Limit, // 34 wind_heading_max_sd_rad
-    Rule::Limit, // 35 wind_heading_deadband_rad
-    Rule::Limit, // 36 airborne_height_m
-    Rule::Limit, // 37 feedforward_hold_band_mps
-    Rule::BelowOne, // 38 min_thrust
-    Rule::Limit, // 39 sink_limit_mps
-    Rule::Limit, // 40 sink_gain
-    Rule::UnitInterval, // 41 max_boost_thrust
-    Rule::Limit, // 42 ballistic_kgpm2 x
-    Rule::Limit, // 43 ballistic_kgpm2 y
-    Rule::Limit, // 44 momentum_per_s x
-    Rule::Limit, // 45 momentum_per_s y
-    Rule::Limit, // 46 force_noise_mps2
-    Rule::Limit, // 47 process_noise_mps_per_rt_s
-    Rule::Limit, // 48 initial_sd_mps
-    Rule::Limit, // 49 gate_sigma
-    Rule::Limit, // 50 max_axial_speed_mps
+const FIELD_TABLE: [Field; FIELDS] = [
+    Field(Rule::Limit, 1.5), // 1 altitude gains p
+    Field(Rule::Limit, 0.2), // 2 altitude gains i
+    Field(Rule::Limit, 2.0), // 3 altitude gains d
+    Field(Rule::Limit, 5.0), // 4 altitude max_integral
+    Field(Rule::UnitInterval, 0.5), // 5 hover_thrust
+    Field(Rule::Limit, 1.0), // 6 integration_band_m
+    Field(Rule::Limit, 0.5), // 7 position_p
+    Field(Rule::Anything, 1.26), // 8 velocity gains p
+    Field(Rule::Anything, 0.4), // 9 velocity gains i
+    Field(Rule::Anything, 0.0), // 10 velocity gains d
+    Field(Rule::Limit, 12.5), // 11 lateral max_integral
+    Field(Rule::Limit, 0.0), // 12 max_accel_mps2
+    Field(Rule::Limit, 0.0), // 13 brake_mps2
+    Field(Rule::UnitInterval, 0.7), // 14 braking_share
+    Field(Rule::Limit, 0.02), // 15 navigation_period_s
+    Field(Rule::Limit, 0.7853982), // 16 max_stick_angles_rad x
+    Field(Rule::Limit, 0.7853982), // 17 max_stick_angles_rad y
+    Field(Rule::Limit, 1.0), // 18 stick_yaw_rate_radps
+    Field(Rule::BelowOne, 0.05), // 19 idle_throttle
+    Field(Rule::Tilt, 0.47123888), // 20 max_tilt_rad
+    Field(Rule::Positive, 3.0), // 21 max_descent_mps
+    Field(Rule::Positive, 1.0), // 22 descent_accel_mps2
+    Field(Rule::Positive, 2.5), // 23 climb_decel_mps2
+    Field(Rule::Positive, 1.0), // 24 altitude_leash_m
+    Field(Rule::AboveDescending, 0.7), // 25 land_speed_mps
+    Field(Rule::Limit, 1.0471976), // 26 waypoint_yaw_radps
+    Field(Rule::Positive, 1.0471976), // 27 heading_rate_radps
+    Field(Rule::Limit, 3.0), // 28 waypoint_yaw_min_leg_m
+    Field(Rule::Limit, 0.5235988), // 29 heading_yield_rad
+    Field(Rule::Limit, 0.1), // 30 heading_yield_rate_radps
+    Field(Rule::Limit, 1.0), // 31 heading_yield_s
+    Field(Rule::Limit, 0.0), // 32 wind_heading_min_mps
+    Field(Rule::UpToPi, 1.3962634), // 33 wind_heading_from_wind_rad
+    Field(Rule::Limit, 0.2617994), // 34 wind_heading_max_sd_rad
+    Field(Rule::Limit, 0.17453292), // 35 wind_heading_deadband_rad
+    Field(Rule::Limit, 1.0), // 36 airborne_height_m
+    Field(Rule::Limit, 0.3), // 37 feedforward_hold_band_mps
+    Field(Rule::BelowOne, 0.0), // 38 min_thrust
+    Field(Rule::Limit, 0.0), // 39 sink_limit_mps
+    Field(Rule::Limit, 0.0), // 40 sink_gain
+    Field(Rule::UnitInterval, 1.0), // 41 max_boost_thrust
+    Field(Rule::Limit, 0.0), // 42 ballistic_kgpm2 x
+    Field(Rule::Limit, 0.0), // 43 ballistic_kgpm2 y
+    Field(Rule::Limit, 0.0), // 44 momentum_per_s x
+    Field(Rule::Limit, 0.0), // 45 momentum_per_s y
+    Field(Rule::Limit, 0.5), // 46 force_noise_mps2
+    Field(Rule::Limit, 0.1), // 47 process_noise_mps_per_rt_s
+    Field(Rule::Limit, 10.0), // 48 initial_sd_mps
+    Field(Rule::Limit, 5.0), // 49 gate_sigma
+    Field(Rule::Limit, 1.0), // 50 max_axial_speed_mps
 ];
 
-// The defaults of the Rust.
-const DEFAULTS: [f32; FIELDS] = [
-    1.5, // 1 altitude gains p
-    0.2, // 2 altitude gains i
-    2.0, // 3 altitude gains d
-    5.0, // 4 altitude max_integral
-    0.5, // 5 hover_thrust
-    1.0, // 6 integration_band_m
-    0.5, // 7 position_p
-    1.26, // 8 velocity gains p
-    0.4, // 9 velocity gains i
-    0.0, // 10 velocity gains d
-    12.5, // 11 lateral max_integral
-    0.0, // 12 max_accel_mps2
-    0.0, // 13 brake_mps2
-    0.7, // 14 braking_share
-    0.02, // 15 navigation_period_s
-    0.7853982, // 16 max_stick_angles_rad x
-    0.7853982, // 17 max_stick_angles_rad y
-    1.0, // 18 stick_yaw_rate_radps
-    0.05, // 19 idle_throttle
-    0.47123888, // 20 max_tilt_rad
-    3.0, // 21 max_descent_mps
-    1.0, // 22 descent_accel_mps2
-    2.5, // 23 climb_decel_mps2
-    1.0, // 24 altitude_leash_m
-    0.7, // 25 land_speed_mps
-    1.0471976, // 26 waypoint_yaw_radps
-    1.0471976, // 27 heading_rate_radps
-    3.0, // 28 waypoint_yaw_min_leg_m
-    0.5235988, // 29 heading_yield_rad
-    0.1, // 30 heading_yield_rate_radps
-    1.0, // 31 heading_yield_s
-    0.0, // 32 wind_heading_min_mps
-    1.3962634, // 33 wind_heading_from_wind_rad
-    0.2617994, // 34 wind_heading_max_sd_rad
-    0.17453292, // 35 wind_heading_deadband_rad
-    1.0, // 36 airborne_height_m
-    0.3, // 37 feedforward_hold_band_mps
-    0.0, // 38 min_thrust
-    0.0, // 39 sink_limit_mps
-    0.0, // 40 sink_gain
-    1.0, // 41 max_boost_thrust
-    0.0, // 42 ballistic_kgpm2 x
-    0.0, // 43 ballistic_kgpm2 y
-    0.0, // 44 momentum_per_s x
-    0.0, // 45 momentum_per_s y
-    0.5, // 46 force_noise_mps2
-    0.1, // 47 process_noise_mps_per_rt_s
-    10.0, // 48 initial_sd_mps
-    5.0, // 49 gate_sigma
-    1.0, // 50 max_axial_speed_mps
-];
+// The touchdown detector's speed, in m/s: a land speed is above it.
+const DESCENDING_MPS: f32 = 0.2;
 
-fn below_one(value: f32) -> bool
-    ensures { result ≡ below_one value }
-{
-    if value >= 0.0 {
-        return value < 1.0;
-    }
-    false
-}
-
-fn above_descending(value: f32) -> bool
-    ensures { result ≡ above_descending value }
-{
-    if value > 0.2 {
-        return floats::compare::is_finite(value);
-    }
-    false
-}
-
-fn up_to_pi(value: f32) -> bool
-    ensures { result ≡ up_to_pi value }
-{
-    if value >= 0.0 {
-        return value <= math::PI;
-    }
-    false
-}
-
+// The rules are data, which the table and the definitions name, so they are matched and not called.
+#[tactic(auto, unfolding(crate::specs::Config::keeps))]
 fn keeps(rule: Rule, value: f32) -> bool
     ensures { result ≡ keeps rule value }
 {
@@ -216,30 +142,25 @@ fn keeps(rule: Rule, value: f32) -> bool
         Rule::Positive => check_positive(value),
         Rule::UnitInterval => check_unit_interval(value),
         Rule::Tilt => check_tilt(value),
-        Rule::BelowOne => below_one(value),
-        Rule::AboveDescending => above_descending(value),
-        Rule::UpToPi => up_to_pi(value),
+        Rule::BelowOne => value >= 0.0 && value < 1.0,
+        Rule::AboveDescending => above(DESCENDING_MPS, value),
+        Rule::UpToPi => value >= 0.0 && value <= math::PI,
     }
 }
 
-// The lowest field that breaks its rule, or one more than there are fields.
-pub fn lowest_broken(fields: &[f32; FIELDS]) -> u8
-    ensures { result ≡ lowest fields.now 1 field_count }
+// The number of the lowest field that breaks its rule, if one does.
+pub fn lowest_broken(fields: &[f32; FIELDS]) -> Option<u8>
+    ensures { result ≡ lowest_broken fields.now }
 {
-    let rules = RULES;
-    let mut i = 0;
-    let mut field: u8 = 1;
-    while i < FIELDS {
-        let rule = rules[i];
-        if !keeps(rule, fields[i]) {
-            return field;
-        }
-        i += 1;
-        field += 1;
-    }
-    field
+    FIELD_TABLE
+        .iter()
+        .zip(fields.iter())
+        .position(|(Field(rule, _), value)| !keeps(*rule, *value))
+        .map(|at| at as u8 + 1)
 }
 
+// The parts of a configuration. Those whose types are of other crates are functions, since an impl of
+// `From` belongs to the crate of its type.
 fn altitude_of(fields: &[f32; FIELDS]) -> AltitudeControllerConfig
     ensures { result ≡ altitude_of fields.now }
 {
@@ -289,37 +210,45 @@ fn heading_of(fields: &[f32; FIELDS]) -> HeadingConfig
     }
 }
 
-fn guidance_of(fields: &[f32; FIELDS]) -> GuidanceConfig
-    ensures { result ≡ guidance_of fields.now }
-{
-    GuidanceConfig {
-        navigation_period_s: fields[14],
-        max_stick_angles_rad: Vec2 {
-            x: fields[15],
-            y: fields[16],
-        },
-        stick_yaw_rate_radps: fields[17],
-        idle_throttle: fields[18],
-        max_tilt_rad: fields[19],
-        max_descent_mps: fields[20],
-        descent_accel_mps2: fields[21],
-        climb_decel_mps2: fields[22],
-        altitude_leash_m: fields[23],
-        land_speed_mps: fields[24],
-        heading: heading_of(fields),
-        airborne_height_m: fields[35],
-        feedforward_hold_band_mps: fields[36],
+impl From<&[f32; FIELDS]> for GuidanceConfig {
+    ghost from_gives = { λ fields config. config ≡ guidance_of fields.now };
+
+    fn from(fields: &[f32; FIELDS]) -> GuidanceConfig
+        ensures { result ≡ guidance_of fields.now }
+    {
+        GuidanceConfig {
+            navigation_period_s: fields[14],
+            max_stick_angles_rad: Vec2 {
+                x: fields[15],
+                y: fields[16],
+            },
+            stick_yaw_rate_radps: fields[17],
+            idle_throttle: fields[18],
+            max_tilt_rad: fields[19],
+            max_descent_mps: fields[20],
+            descent_accel_mps2: fields[21],
+            climb_decel_mps2: fields[22],
+            altitude_leash_m: fields[23],
+            land_speed_mps: fields[24],
+            heading: heading_of(fields),
+            airborne_height_m: fields[35],
+            feedforward_hold_band_mps: fields[36],
+        }
     }
 }
 
-fn thrust_of(fields: &[f32; FIELDS]) -> ThrustLimits
-    ensures { result ≡ thrust_of fields.now }
-{
-    ThrustLimits {
-        min_thrust: fields[37],
-        sink_limit_mps: fields[38],
-        sink_gain: fields[39],
-        max_boost_thrust: fields[40],
+impl From<&[f32; FIELDS]> for ThrustLimits {
+    ghost from_gives = { λ fields limits. limits ≡ thrust_of fields.now };
+
+    fn from(fields: &[f32; FIELDS]) -> ThrustLimits
+        ensures { result ≡ thrust_of fields.now }
+    {
+        ThrustLimits {
+            min_thrust: fields[37],
+            sink_limit_mps: fields[38],
+            sink_gain: fields[39],
+            max_boost_thrust: fields[40],
+        }
     }
 }
 
@@ -343,22 +272,30 @@ fn wind_of(fields: &[f32; FIELDS]) -> WindConfig
     }
 }
 
-impl CopterGuidanceConfig {
-    pub fn of_fields(fields: &[f32; FIELDS]) -> CopterGuidanceConfig
+impl From<&[f32; FIELDS]> for CopterGuidanceConfig {
+    ghost from_gives = { λ fields config. config ≡ config_of fields.now };
+
+    #[tactic(auto, unfolding(crate::specs::Config::config_of))]
+    fn from(fields: &[f32; FIELDS]) -> CopterGuidanceConfig
         ensures { result ≡ config_of fields.now }
     {
         CopterGuidanceConfig {
             altitude: altitude_of(fields),
             lateral: lateral_of(fields),
-            guidance: guidance_of(fields),
-            thrust: thrust_of(fields),
+            guidance: GuidanceConfig::from(fields),
+            thrust: ThrustLimits::from(fields),
             wind: wind_of(fields),
         }
     }
+}
 
-    pub fn default() -> CopterGuidanceConfig
+impl Default for CopterGuidanceConfig {
+    ghost is_default = { λ config. config ≡ default_config };
+
+    #[tactic(auto, unfolding(crate::specs::Config::default_config))]
+    fn default() -> CopterGuidanceConfig
         ensures { result ≡ default_config }
     {
-        CopterGuidanceConfig::of_fields(&DEFAULTS)
+        CopterGuidanceConfig::from(&FIELD_TABLE.map(|Field(_, default)| default))
     }
 }

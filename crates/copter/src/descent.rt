@@ -3,8 +3,15 @@ ghost use Rattle.std.specs.Prelude.{◌≡◌};
 ghost use Rattle.copter.specs.Descent.{lowered, descent_start, ramped_descent, descent_rate, finite_height, toward, descend_toward, landing, land_descent};
 
 use crate::config::CopterGuidanceConfig;
-use crate::memory::AltitudeHold;
+use crate::memory::VerticalMemory;
 use altitude::AltitudeTarget;
+
+// The craft's altitude, and how fast it climbs.
+#[derive(Clone, Copy)]
+pub struct Climb {
+    pub altitude_m: f32,
+    pub climb_mps: f32,
+}
 
 // Where a descent's target moves from, and its speed, negative while it climbs.
 #[derive(Clone, Copy)]
@@ -13,52 +20,25 @@ pub struct Descent {
     pub speed_mps: f32,
 }
 
-// None until there is a finite altitude to descend from.
-#[derive(Clone, Copy)]
-pub enum DescentStart {
-    Unknown,
-    From(Descent),
-}
-
 // The target of a call, and what is remembered of it.
 #[derive(Clone, Copy)]
 pub struct Descended {
     pub target: AltitudeTarget,
-    pub hold: AltitudeHold,
+    pub hold: Option<f32>,
     pub speed_mps: f32,
 }
 
 // A target lowered by a step, but no further than the leash below the craft. A NaN altitude keeps
 // lowering a target.
+#[tactic(auto, unfolding(crate::specs::Descent::lowered))]
 fn lowered(start_m: f32, step_m: f32, altitude_m: f32, leash_m: f32) -> f32
     ensures { result ≡ lowered start_m step_m altitude_m leash_m }
 {
     floats::minmax::max(start_m - step_m, altitude_m - leash_m)
 }
 
-// From the remembered target, or from the craft's altitude at the craft's climb; a sink or an unknown
-// climb starts at rest.
-fn descent_start(
-    hold: AltitudeHold,
-    speed_mps: f32,
-    altitude_m: f32,
-    climb_mps: f32,
-) -> DescentStart
-    ensures { result ≡ descent_start hold speed_mps altitude_m climb_mps }
-{
-    let AltitudeHold::Height(start_m) = hold else {
-        if floats::compare::is_finite(altitude_m) {
-            return DescentStart::From(Descent {
-                start_m: altitude_m,
-                speed_mps: -floats::minmax::max(climb_mps, 0.0),
-            });
-        }
-        return DescentStart::Unknown;
-    };
-    DescentStart::From(Descent { start_m, speed_mps })
-}
-
 // `limit_mps`, or less while the target sheds a climb or speeds up.
+#[tactic(auto, unfolding(crate::specs::Descent::ramped_descent))]
 fn ramped_descent_mps(config: CopterGuidanceConfig, dt: f32, limit_mps: f32, speed_mps: f32) -> f32
     ensures { result ≡ ramped_descent config dt limit_mps speed_mps }
 {
@@ -72,6 +52,7 @@ fn ramped_descent_mps(config: CopterGuidanceConfig, dt: f32, limit_mps: f32, spe
 }
 
 // The rate toward a waypoint `height_m` below the target.
+#[tactic(auto, unfolding(crate::specs::Descent::descent_rate, math::specs::Inner::limited_closing_speed))]
 fn descent_rate_mps(config: CopterGuidanceConfig, height_m: f32) -> f32
     ensures { result ≡ descent_rate config height_m }
 {
@@ -84,16 +65,18 @@ fn descent_rate_mps(config: CopterGuidanceConfig, height_m: f32) -> f32
 }
 
 // A height that is not finite is none.
-fn finite_height(height_m: f32) -> AltitudeHold
+#[tactic(auto, unfolding(crate::specs::Descent::finite_height))]
+fn finite_height(height_m: f32) -> Option<f32>
     ensures { result ≡ finite_height height_m }
 {
     if floats::compare::is_finite(height_m) {
-        return AltitudeHold::Height(height_m);
+        return Some(height_m);
     }
-    AltitudeHold::Nothing
+    None
 }
 
 // The target toward a waypoint from where the descent starts.
+#[tactic(auto, unfolding(crate::specs::Descent::toward))]
 fn toward(
     config: CopterGuidanceConfig,
     dt: f32,
@@ -130,77 +113,91 @@ fn toward(
     }
 }
 
-// The target of a waypoint call. With no target and no finite altitude it flies level to the
-// waypoint's.
-pub fn descend_toward(
-    config: CopterGuidanceConfig,
-    dt: f32,
-    hold: AltitudeHold,
-    speed_mps: f32,
-    waypoint_m: f32,
-    altitude_m: f32,
-    climb_mps: f32,
-) -> Descended
-    ensures { result ≡ descend_toward config dt hold speed_mps waypoint_m altitude_m climb_mps }
-{
-    let start = descent_start(hold, speed_mps, altitude_m, climb_mps);
-    let DescentStart::From(from) = start else {
-        return Descended {
-            target: AltitudeTarget {
-                altitude_m: waypoint_m,
-                velocity_mps: 0.0,
-            },
-            hold,
-            speed_mps: 0.0,
+impl VerticalMemory {
+    // None until there is a finite altitude to descend from: from the remembered target, or from the craft's
+    // altitude at the craft's climb; a sink or an unknown climb starts at rest.
+    #[tactic(auto, unfolding(crate::specs::Descent::descent_start))]
+    fn descent_start(self, craft: Climb) -> Option<Descent>
+        ensures { result ≡ descent_start self.target self.descent_speed_mps craft.altitude_m craft.climb_mps }
+    {
+        let Some(start_m) = self.target else {
+            if floats::compare::is_finite(craft.altitude_m) {
+                return Some(Descent {
+                    start_m: craft.altitude_m,
+                    speed_mps: -floats::minmax::max(craft.climb_mps, 0.0),
+                });
+            }
+            return None;
         };
-    };
-    let target = toward(config, dt, waypoint_m, altitude_m, from);
-    Descended {
-        target,
-        hold: finite_height(target.altitude_m),
-        speed_mps: -target.velocity_mps,
+        Some(Descent {
+            start_m,
+            speed_mps: self.descent_speed_mps,
+        })
+    }
+
+    // The target of a waypoint call. With no target and no finite altitude it flies level to the waypoint's.
+    #[tactic(auto, unfolding(crate::specs::Descent::descend_toward, crate::specs::Descent::descended_from))]
+    pub fn descend_toward(
+        self,
+        config: CopterGuidanceConfig,
+        dt: f32,
+        waypoint_m: f32,
+        craft: Climb,
+    ) -> Descended
+        ensures { result ≡ descend_toward config dt self.target self.descent_speed_mps waypoint_m craft.altitude_m craft.climb_mps }
+    {
+        let Some(from) = self.descent_start(craft) else {
+            return Descended {
+                target: AltitudeTarget {
+                    altitude_m: waypoint_m,
+                    velocity_mps: 0.0,
+                },
+                hold: self.target,
+                speed_mps: 0.0,
+            };
+        };
+        let target = toward(config, dt, waypoint_m, craft.altitude_m, from);
+        Descended {
+            target,
+            hold: finite_height(target.altitude_m),
+            speed_mps: -target.velocity_mps,
+        }
+    }
+
+    // The target of a land call, which keeps descending. With no target and no finite altitude it is a NaN.
+    #[tactic(auto, unfolding(crate::specs::Descent::land_descent, crate::specs::Descent::landed_from))]
+    pub fn land_descent(self, config: CopterGuidanceConfig, dt: f32, craft: Climb) -> Descended
+        ensures { result ≡ land_descent config dt self.target self.descent_speed_mps craft.altitude_m craft.climb_mps }
+    {
+        let limit_mps = config.guidance.land_speed_mps;
+        let Some(from) = self.descent_start(craft) else {
+            return Descended {
+                target: AltitudeTarget {
+                    altitude_m: f32::NAN,
+                    velocity_mps: -ramped_descent_mps(
+                        config,
+                        dt,
+                        limit_mps,
+                        self.descent_speed_mps,
+                    ),
+                },
+                hold: None,
+                speed_mps: 0.0,
+            };
+        };
+        let rate_mps = ramped_descent_mps(config, dt, limit_mps, from.speed_mps);
+        let target_m = lowered(
+            from.start_m,
+            rate_mps * dt,
+            craft.altitude_m,
+            config.guidance.altitude_leash_m,
+        );
+        landing(target_m, rate_mps)
     }
 }
 
-// The target of a land call, which keeps descending. With no target and no finite altitude it is a
-// NaN.
-pub fn land_descent(
-    config: CopterGuidanceConfig,
-    dt: f32,
-    hold: AltitudeHold,
-    speed_mps: f32,
-    altitude_m: f32,
-    climb_mps: f32,
-) -> Descended
-    ensures { result ≡ land_descent config dt hold speed_mps altitude_m climb_mps }
-{
-    let start = descent_start(hold, speed_mps, altitude_m, climb_mps);
-    let DescentStart::From(from) = start else {
-        return Descended {
-            target: AltitudeTarget {
-                altitude_m: 0.0 / 0.0,
-                velocity_mps: -ramped_descent_mps(
-                    config,
-                    dt,
-                    config.guidance.land_speed_mps,
-                    speed_mps,
-                ),
-            },
-            hold: AltitudeHold::Nothing,
-            speed_mps: 0.0,
-        };
-    };
-    let rate_mps = ramped_descent_mps(config, dt, config.guidance.land_speed_mps, from.speed_mps);
-    let target_m = lowered(
-        from.start_m,
-        rate_mps * dt,
-        altitude_m,
-        config.guidance.altitude_leash_m,
-    );
-    landing(target_m, rate_mps)
-}
-
 // The rate is remembered only with a finite target, so that a later descent starts from rest.
+#[tactic(auto, unfolding(crate::specs::Descent::landing))]
 fn landing(target_m: f32, rate_mps: f32) -> Descended
     ensures { result ≡ landing target_m rate_mps }
 {
@@ -211,13 +208,13 @@ fn landing(target_m: f32, rate_mps: f32) -> Descended
     if floats::compare::is_finite(target_m) {
         return Descended {
             target,
-            hold: AltitudeHold::Height(target_m),
+            hold: Some(target_m),
             speed_mps: rate_mps,
         };
     }
     Descended {
         target,
-        hold: AltitudeHold::Nothing,
+        hold: None,
         speed_mps: 0.0,
     }
 }

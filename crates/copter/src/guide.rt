@@ -1,22 +1,22 @@
-// The five calls, as `guide` and one by one, the priming and the wind reading.
+// The five calls, by their commands, the priming and the wind reading.
 ghost use Rattle.std.specs.Prelude.{◌≡◌, Float};
 ghost use Rattle.copter.specs.Guide.{heading_target, followed_heading, command_heading, navigated_thrust, altitude_control, piloted_flags, fly_to, attitude_call, absolute_attitude_call, absolute_rate_call, waypoint_call, land_call, guide_call, new_craft, prime, wind_reading};
 ghost use Rattle.copter.specs.Plan.{steered, steer, turn_for, flown};
 
 use crate::commands::{
     AbsoluteAttitudeCommand, AbsoluteRateCommand, AttitudeCommand, AttitudeSetpoint,
-    BodyRateSetpoint, Command, Flags, LandCommand, Setpoint, TargetVelocity, WaypointCommand,
+    BodyRateSetpoint, Command, Flags, LandCommand, Setpoint, WaypointCommand,
 };
 use crate::config::CopterGuidanceConfig;
-use crate::descent::Descended;
+use crate::descent::{Climb, Descended};
 use crate::memory::{CopterGuidance, LateralMemory, Memory, VerticalMemory};
 use crate::thrust::{PilotedThrust, Thrust};
 use crate::tilt::Course;
 use altitude::{AltitudeControl, AltitudeEstimate, AltitudeTarget};
 use heading::hover_wind::HoverWind;
-use heading::leg_heading::{Goal, LegHeading, Turn};
+use heading::leg_heading::{Goal, HeadingCall, LegHeading, Turn};
+use wind::estimate::WindEstimate;
 use wind::state::VehicleState;
-use wind::window::Filter;
 
 // The craft after a call, its setpoint and its flags.
 #[derive(Clone, Copy)]
@@ -43,6 +43,7 @@ pub enum Plan {
 }
 
 // The heading target: wrapped; where the wrap is not finite the wrapped estimate; else kept.
+#[tactic(auto, unfolding(crate::specs::Guide::heading_target))]
 fn heading_target(kept_rad: f32, target_rad: f32, estimate_rad: f32) -> f32
     ensures { result ≡ heading_target kept_rad target_rad estimate_rad }
 {
@@ -54,6 +55,7 @@ fn heading_target(kept_rad: f32, target_rad: f32, estimate_rad: f32) -> f32
 }
 
 // The wrapped estimate, or the heading kept where the estimate is not finite.
+#[tactic(auto, unfolding(crate::specs::Guide::followed_heading))]
 fn followed_heading(kept_rad: f32, estimate_rad: f32) -> f32
     ensures { result ≡ followed_heading kept_rad estimate_rad }
 {
@@ -64,6 +66,7 @@ fn followed_heading(kept_rad: f32, estimate_rad: f32) -> f32
 }
 
 // A commanded heading that is not finite holds the present target.
+#[tactic(auto, unfolding(crate::specs::Guide::command_heading))]
 fn command_heading(kept_rad: f32, commanded_rad: f32) -> f32
     ensures { result ≡ command_heading kept_rad commanded_rad }
 {
@@ -75,6 +78,7 @@ fn command_heading(kept_rad: f32, commanded_rad: f32) -> f32
 
 impl CopterGuidance {
     // A fresh craft.
+    #[tactic(auto, unfolding(crate::specs::Guide::new_craft))]
     pub fn new(config: CopterGuidanceConfig) -> CopterGuidance
         ensures { result ≡ new_craft config }
     {
@@ -85,29 +89,27 @@ impl CopterGuidance {
     }
 
     // Latches the heading as it is; the wind is forgotten on the ground and kept in the air.
+    #[tactic(auto, unfolding(crate::specs::Guide::prime, crate::specs::Memory::fresh))]
     pub fn prime(self, state: VehicleState) -> CopterGuidance
         ensures { result ≡ prime self state }
     {
-        let config = self.config;
-        let wind = self.memory.wind;
+        let airborne_height_m = self.config.guidance.airborne_height_m;
         CopterGuidance {
-            config,
+            config: self.config,
             memory: Memory {
-                vertical: VerticalMemory::new(),
-                lateral: LateralMemory::new(),
                 heading_rad: state.heading_rad,
-                leg_heading: LegHeading::new(),
-                wind: wind.prime(config.guidance.airborne_height_m, state),
+                wind: self.memory.wind.prime(airborne_height_m, state),
+                ..Memory::new()
             },
         }
     }
 
     // The wind estimate; none until a window has closed since it was last forgotten.
-    pub fn wind(self) -> Filter
+    #[tactic(auto, unfolding(crate::specs::Guide::wind_reading))]
+    pub fn wind(self) -> Option<WindEstimate>
         ensures { result ≡ wind_reading self }
     {
-        let wind = self.memory.wind;
-        wind.estimate()
+        self.memory.wind.estimate()
     }
 
     // A call with its command: the wind is updated first.
@@ -115,10 +117,12 @@ impl CopterGuidance {
         ensures { result ≡ guide_call self dt state command }
     {
         let config = self.config;
-        let before = self.memory.wind;
-        let wind = before.update(dt, config.wind, config.guidance.airborne_height_m, state);
-        let plan = self.plan(dt, state, command);
-        match plan {
+        let airborne_height_m = config.guidance.airborne_height_m;
+        let wind = self
+            .memory
+            .wind
+            .update(dt, config.wind, airborne_height_m, state);
+        match self.plan(dt, state, command) {
             Plan::Navigated(course, descended, goal) => self.fly_to(
                 dt,
                 state,
@@ -131,42 +135,7 @@ impl CopterGuidance {
         }
     }
 
-    pub fn attitude(self, dt: f32, state: VehicleState, command: AttitudeCommand) -> Guided
-        ensures { result ≡ attitude_call self dt state command }
-    {
-        self.guide(dt, state, Command::Attitude(command))
-    }
-
-    pub fn absolute_attitude(
-        self,
-        dt: f32,
-        state: VehicleState,
-        command: AbsoluteAttitudeCommand,
-    ) -> Guided
-        ensures { result ≡ absolute_attitude_call self dt state command }
-    {
-        self.guide(dt, state, Command::AbsoluteAttitude(command))
-    }
-
-    pub fn absolute_rate(self, dt: f32, state: VehicleState, command: AbsoluteRateCommand) -> Guided
-        ensures { result ≡ absolute_rate_call self dt state command }
-    {
-        self.guide(dt, state, Command::AbsoluteRate(command))
-    }
-
-    pub fn waypoint(self, dt: f32, state: VehicleState, command: WaypointCommand) -> Guided
-        ensures { result ≡ waypoint_call self dt state command }
-    {
-        self.guide(dt, state, Command::Waypoint(command))
-    }
-
-    pub fn land(self, dt: f32, state: VehicleState, command: LandCommand) -> Guided
-        ensures { result ≡ land_call self dt state command }
-    {
-        self.guide(dt, state, Command::Land(command))
-    }
-
-    // What a command flies.
+    // What a command flies; each brings its own fields, so the enum that holds them picks the step.
     fn plan(self, dt: f32, state: VehicleState, command: Command) -> Plan
         ensures { flown self dt state result ≡ guide_call self dt state command }
     {
@@ -182,6 +151,7 @@ impl CopterGuidance {
     }
 
     // Sticks to roll, pitch, heading and thrust.
+    #[tactic(auto, unfolding(crate::specs::Plan::steered, crate::specs::Guide::attitude_call, crate::specs::Guide::piloted))]
     fn attitude_setpoint(self, dt: f32, state: VehicleState, command: AttitudeCommand) -> Steered
         ensures { result ≡ steered (attitude_call self dt state command) }
     {
@@ -215,6 +185,7 @@ impl CopterGuidance {
     }
 
     // Roll and pitch as commanded; the heading replaces the heading target.
+    #[tactic(auto, unfolding(crate::specs::Plan::steered, crate::specs::Guide::absolute_attitude_call, crate::specs::Guide::piloted))]
     fn absolute_attitude_setpoint(
         self,
         state: VehicleState,
@@ -240,6 +211,7 @@ impl CopterGuidance {
     }
 
     // Rates as commanded; the heading target follows the craft.
+    #[tactic(auto, unfolding(crate::specs::Plan::steered, crate::specs::Guide::absolute_rate_call, crate::specs::Guide::piloted))]
     fn absolute_rate_setpoint(self, state: VehicleState, command: AbsoluteRateCommand) -> Steered
         ensures { (dt : Float) → result ≡ steered (absolute_rate_call self dt state command) }
     {
@@ -259,101 +231,76 @@ impl CopterGuidance {
     }
 
     // Toward a waypoint.
+    #[tactic(auto, unfolding(crate::specs::Plan::flown, crate::specs::Plan::turn_for, heading::specs::Inner::toward, crate::specs::Guide::waypoint_call))]
     fn navigate(self, dt: f32, state: VehicleState, command: WaypointCommand) -> Plan
         ensures { flown self dt state result ≡ waypoint_call self dt state command }
     {
-        let config = self.config;
-        let before = self.memory;
-        let vertical = before.vertical;
-        let hold = vertical.target;
-        let descended = crate::descent::descend_toward(
-            config,
-            dt,
-            hold,
-            vertical.descent_speed_mps,
-            command.altitude_m,
-            state.position_m.z,
-            state.velocity_mps.z,
-        );
-        let position_m = command.position_m;
-        let velocity_mps = command.velocity_mps;
+        let vertical = self.memory.vertical;
+        let descended = vertical.descend_toward(self.config, dt, command.altitude_m, climb(state));
         let course = Course {
-            position_m,
-            velocity_mps,
+            position_m: command.position_m,
+            velocity_mps: command.velocity_mps,
             cruise_speed_mps: command.cruise_speed_mps,
         };
-        let commanded = command.heading_rad;
-        Plan::Navigated(course, descended, Goal::Waypoint(position_m, commanded))
+        let goal = Goal::Waypoint(command.position_m, command.heading_rad);
+        Plan::Navigated(course, descended, goal)
     }
 
     // Down to a position, with an altitude target that keeps descending.
+    #[tactic(auto, unfolding(crate::specs::Plan::flown, crate::specs::Plan::turn_for, heading::specs::Inner::toward, crate::specs::Guide::land_call))]
     fn land_leg(self, dt: f32, state: VehicleState, command: LandCommand) -> Plan
         ensures { flown self dt state result ≡ land_call self dt state command }
     {
-        let config = self.config;
-        let before = self.memory;
-        let vertical = before.vertical;
-        let hold = vertical.target;
-        let descended = crate::descent::land_descent(
-            config,
-            dt,
-            hold,
-            vertical.descent_speed_mps,
-            state.position_m.z,
-            state.velocity_mps.z,
-        );
-        let position_m = command.position_m;
+        let descended = self
+            .memory
+            .vertical
+            .land_descent(self.config, dt, climb(state));
         let course = Course {
-            position_m,
-            velocity_mps: TargetVelocity::Nothing,
+            position_m: command.position_m,
+            velocity_mps: None,
             cruise_speed_mps: 0.0,
         };
         Plan::Navigated(course, descended, Goal::Land)
     }
 
     // The heading turned for a goal, with the wind updated.
+    #[tactic(auto, unfolding(crate::specs::Plan::turn_for))]
     fn turn_for(self, dt: f32, state: VehicleState, goal: Goal, wind: HoverWind) -> Turn
         ensures { result ≡ turn_for self dt state goal wind }
     {
-        let config = self.config;
-        let before = self.memory;
-        let leg = before.leg_heading;
-        leg.toward(
+        let call = HeadingCall {
             dt,
-            config.guidance.heading,
-            before.heading_rad,
-            goal,
-            wind.estimate(),
+            config: self.config.guidance.heading,
+            target_rad: self.memory.heading_rad,
+            estimate: wind.estimate(),
             state,
-        )
+        };
+        self.memory.leg_heading.toward(call, goal)
     }
 
     // A piloted call, with the wind updated: all of navigation is reset but the stored tilt and whether it
     // was capped.
+    #[tactic(auto, unfolding(crate::specs::Plan::steer, crate::specs::Memory::fresh))]
     fn steer(self, steered: Steered, wind: HoverWind) -> Guided
         ensures { result ≡ steer self steered wind }
     {
-        let config = self.config;
-        let lateral = self.memory.lateral;
-        let setpoint = steered.setpoint;
-        let flags = steered.flags;
         Guided {
             craft: CopterGuidance {
-                config,
+                config: self.config,
                 memory: Memory {
-                    vertical: VerticalMemory::new(),
-                    lateral: lateral.reset(),
+                    lateral: self.memory.lateral.reset(),
                     heading_rad: steered.heading_rad,
-                    leg_heading: LegHeading::new(),
                     wind,
+                    ..Memory::new()
                 },
             },
-            setpoint,
-            flags,
+            setpoint: steered.setpoint,
+            flags: steered.flags,
         }
     }
 
     // Flies a course at an altitude target, with the heading turned and the wind updated.
+    #[tactic(auto, unfolding(crate::specs::Guide::fly_to))]
     fn fly_to(
         self,
         dt: f32,
@@ -369,22 +316,21 @@ impl CopterGuidance {
         let before = self.memory;
         let turned_rad = heading_target(before.heading_rad, turn.heading_rad, state.heading_rad);
         let heading_rad = heading_target(turned_rad, turned_rad, state.heading_rad);
-        let lateral_before = before.lateral;
-        let tilted = lateral_before.tilt_toward(config, dt, course, wind.estimate(), state);
+        let tilted = before
+            .lateral
+            .tilt_toward(config, dt, course, wind.estimate(), state);
         let lateral = tilted.memory;
         let leg_heading = turn.memory;
-        let vertical_before = before.vertical;
-        let control = altitude_control(vertical_before, config, dt, descended.target, state);
+        let control = altitude_control(before.vertical, config, dt, descended.target, state);
         let thrust = navigated_thrust(control.thrust, config.thrust.min_thrust);
         let controller = control.controller;
-        let target = descended.hold;
         Guided {
             craft: CopterGuidance {
                 config,
                 memory: Memory {
                     vertical: VerticalMemory {
                         controller,
-                        target,
+                        target: descended.hold,
                         descent_speed_mps: descended.speed_mps,
                     },
                     lateral,
@@ -409,26 +355,31 @@ impl CopterGuidance {
 }
 
 // The altitude loop's thrust, floored. A thrust on a bound of [0, 1] was clipped.
+#[tactic(auto, unfolding(crate::specs::Guide::navigated_thrust))]
 fn navigated_thrust(linear_thrust: f32, min_thrust: f32) -> Thrust
     ensures { result ≡ navigated_thrust linear_thrust min_thrust }
 {
     let floored = crate::thrust::floor_thrust(linear_thrust, min_thrust);
-    if linear_thrust <= 0.0 {
-        return Thrust {
-            value: floored.value,
-            saturated: true,
-        };
+    let on_bound = linear_thrust <= 0.0 || linear_thrust >= 1.0;
+    Thrust {
+        value: floored.value,
+        saturated: on_bound || floored.saturated,
     }
-    if linear_thrust >= 1.0 {
-        return Thrust {
-            value: floored.value,
-            saturated: true,
-        };
+}
+
+// How a state stands vertically.
+fn climb(state: VehicleState) -> Climb
+    ensures altitude { result.altitude_m ≡ state.position_m.z }
+    ensures climb { result.climb_mps ≡ state.velocity_mps.z }
+{
+    Climb {
+        altitude_m: state.position_m.z,
+        climb_mps: state.velocity_mps.z,
     }
-    floored
 }
 
 // A run of the altitude loop.
+#[tactic(auto, unfolding(crate::specs::Guide::altitude_control))]
 fn altitude_control(
     vertical: VerticalMemory,
     config: CopterGuidanceConfig,
@@ -438,21 +389,20 @@ fn altitude_control(
 ) -> AltitudeControl
     ensures { result ≡ altitude_control vertical config dt target state }
 {
-    let controller = vertical.controller;
-    let attitude = state.attitude;
-    controller.control(
+    vertical.controller.control(
         config.altitude,
         dt,
         target,
         AltitudeEstimate {
             altitude_m: state.position_m.z,
             velocity_mps: state.velocity_mps.z,
-            attitude,
+            attitude: state.attitude,
         },
     )
 }
 
 // A piloted call never saturates the tilt.
+#[tactic(auto, unfolding(crate::specs::Guide::piloted_flags))]
 fn piloted_flags(held: PilotedThrust) -> Flags
     ensures { result ≡ piloted_flags held }
 {

@@ -10,24 +10,18 @@ use heading::leg_heading::LegHeading;
 use lateral::LateralController;
 use math::vectors::Vec2;
 
-// The altitude target of document 01: none, or a finite height in metres.
-#[derive(Clone, Copy)]
-pub enum AltitudeHold {
-    Nothing,
-    Height(f32),
-}
-
-// The vertical loop: its controller, the target and how fast the target last descended.
-#[derive(Clone, Copy)]
+// The vertical loop: its controller, the altitude target, none or a finite height in metres, and how fast
+// the target last descended.
+#[derive(Clone, Copy, Default)]
 pub struct VerticalMemory {
     pub controller: AltitudeController,
-    pub target: AltitudeHold,
+    pub target: Option<f32>,
     pub descent_speed_mps: f32,
 }
 
 // The lateral loop: its controller, its pacing, the stored tilt with whether it was capped, and the
-// acceleration requested before the cap.
-#[derive(Clone, Copy)]
+// acceleration requested before the cap. The tilt stands in both cases.
+#[derive(Clone, Copy, Default)]
 pub struct LateralMemory {
     pub controller: LateralController,
     pub rate: RateDivider,
@@ -36,7 +30,7 @@ pub struct LateralMemory {
     pub requested_accel_mps2: Vec2,
 }
 
-#[derive(Clone, Copy)]
+#[derive(Clone, Copy, Default)]
 pub struct Memory {
     pub vertical: VerticalMemory,
     pub lateral: LateralMemory,
@@ -53,46 +47,37 @@ pub struct CopterGuidance {
 }
 
 impl VerticalMemory {
+    #[tactic(auto, unfolding(crate::specs::Memory::fresh_vertical, altitude::specs::Altitude::fresh))]
     pub fn new() -> VerticalMemory
         ensures { result ≡ fresh_vertical }
     {
-        VerticalMemory {
-            controller: AltitudeController::new(),
-            target: AltitudeHold::Nothing,
-            descent_speed_mps: 0.0,
-        }
+        VerticalMemory::default()
     }
 }
 
 impl LateralMemory {
+    #[tactic(auto, unfolding(crate::specs::Memory::fresh_lateral, lateral::specs::Lateral::fresh))]
     pub fn new() -> LateralMemory
         ensures { result ≡ fresh_lateral }
     {
-        LateralMemory {
-            controller: LateralController::new(),
-            rate: RateDivider::reset(),
-            tilt_rad: Vec2::zeros(),
-            tilt_capped: false,
-            requested_accel_mps2: Vec2::zeros(),
-        }
+        LateralMemory::default()
     }
 
     // All but the stored tilt and whether it was capped.
+    #[tactic(auto, unfolding(crate::specs::Memory::reset_lateral, crate::specs::Memory::fresh_lateral))]
     pub fn reset(self) -> LateralMemory
         ensures { result ≡ reset_lateral self }
     {
-        let tilt_rad = self.tilt_rad;
         LateralMemory {
-            controller: LateralController::new(),
-            rate: RateDivider::reset(),
-            tilt_rad,
+            tilt_rad: self.tilt_rad,
             tilt_capped: self.tilt_capped,
-            requested_accel_mps2: Vec2::zeros(),
+            ..LateralMemory::new()
         }
     }
 }
 
 impl Memory {
+    #[tactic(auto, unfolding(crate::specs::Memory::fresh))]
     pub fn new() -> Memory
         ensures { result ≡ fresh }
     {

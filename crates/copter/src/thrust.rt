@@ -1,19 +1,18 @@
 // How a thrust is boosted, clipped, floored and guarded, each with whether it was changed.
-ghost use Rattle.std.specs.Prelude.{◌≡◌, ◌||◌};
+ghost use Rattle.std.specs.Prelude.{◌≡◌};
 ghost use Rattle.copter.specs.Thrust.{clip_thrust, boost, floor_thrust, guarded, hold_piloted, hold_absolute, boosted};
 
 use crate::config::{CopterGuidanceConfig, ThrustLimits};
-use math::SinkGuard;
 use math::vectors::Quaternion;
 
-// A thrust, and whether something changed it.
+// A thrust, which stands in both cases, and whether something changed it.
 #[derive(Clone, Copy)]
 pub struct Thrust {
     pub value: f32,
     pub saturated: bool,
 }
 
-// A piloted thrust, whether something changed it, and whether the throttle is idle.
+// A piloted thrust, whether something changed it, and whether the throttle is idle; it stands in each case.
 #[derive(Clone, Copy)]
 pub struct PilotedThrust {
     pub value: f32,
@@ -22,23 +21,18 @@ pub struct PilotedThrust {
 }
 
 // Saturated to [0, 1]; a NaN becomes 0 and is not flagged.
+#[tactic(auto, unfolding(crate::specs::Thrust::clip_thrust))]
 pub fn clip_thrust(thrust: f32) -> Thrust
     ensures { result ≡ clip_thrust thrust }
 {
-    let value = math::saturate_throttle(thrust);
-    if thrust < 0.0 {
-        return Thrust {
-            value,
-            saturated: true,
-        };
-    }
     Thrust {
-        value,
-        saturated: thrust > 1.0,
+        value: math::saturate_throttle(thrust),
+        saturated: thrust < 0.0 || thrust > 1.0,
     }
 }
 
 // The stick's throttle boosted for the tilt, up to the ceiling unless the stick itself is above it.
+#[tactic(auto, unfolding(crate::specs::Thrust::boost))]
 pub fn boost(throttle: f32, attitude: Quaternion, max_boost_thrust: f32) -> Thrust
     ensures { result ≡ boost throttle attitude max_boost_thrust }
 {
@@ -57,6 +51,7 @@ pub fn boost(throttle: f32, attitude: Quaternion, max_boost_thrust: f32) -> Thru
 }
 
 // Raised to the floor.
+#[tactic(auto, unfolding(crate::specs::Thrust::floor_thrust))]
 pub fn floor_thrust(thrust: f32, min_thrust: f32) -> Thrust
     ensures { result ≡ floor_thrust thrust min_thrust }
 {
@@ -73,16 +68,16 @@ pub fn floor_thrust(thrust: f32, min_thrust: f32) -> Thrust
 }
 
 // Raised by the sink guard.
+#[tactic(auto, unfolding(crate::specs::Thrust::guarded, crate::specs::Thrust::guarded_by))]
 fn guarded(thrust: Thrust, climb_mps: f32, limits: ThrustLimits) -> Thrust
     ensures { result ≡ guarded thrust climb_mps limits }
 {
-    let guard = math::guard_sink(
+    let Some(value) = math::guard_sink(
         thrust.value,
         climb_mps,
         limits.sink_limit_mps,
         limits.sink_gain,
-    );
-    let SinkGuard::Raised(value) = guard else {
+    ) else {
         return thrust;
     };
     Thrust {
@@ -93,6 +88,7 @@ fn guarded(thrust: Thrust, climb_mps: f32, limits: ThrustLimits) -> Thrust
 
 // The raw throttle against field 19 decides whether it is idle, and a NaN is. An idle throttle passes
 // the thrust through; any other is floored and guarded.
+#[tactic(auto, unfolding(crate::specs::Thrust::hold_piloted))]
 pub fn hold_piloted(
     throttle: f32,
     thrust: Thrust,
@@ -107,7 +103,7 @@ pub fn hold_piloted(
         let held = guarded(floored, climb_mps, limits);
         return PilotedThrust {
             value: held.value,
-            saturated: either(thrust.saturated, held.saturated),
+            saturated: thrust.saturated || held.saturated,
             idle: false,
         };
     }
@@ -118,30 +114,22 @@ pub fn hold_piloted(
     }
 }
 
-fn either(a: bool, b: bool) -> bool
-    ensures { result ≡ a || b }
-{
-    if a {
-        return true;
-    }
-    b
-}
-
 // The thrust of an absolute command: clipped, not boosted.
+#[tactic(auto, unfolding(crate::specs::Thrust::hold_absolute))]
 pub fn hold_absolute(thrust: f32, climb_mps: f32, config: CopterGuidanceConfig) -> PilotedThrust
     ensures { result ≡ hold_absolute thrust climb_mps config }
 {
-    let limits = config.thrust;
     hold_piloted(
         thrust,
         clip_thrust(thrust),
         climb_mps,
         config.guidance.idle_throttle,
-        limits,
+        config.thrust,
     )
 }
 
 // The stick's throttle, boosted for the tilt and then clipped.
+#[tactic(auto, unfolding(crate::specs::Thrust::boosted))]
 pub fn boosted(throttle: f32, attitude: Quaternion, max_boost_thrust: f32) -> Thrust
     ensures { result ≡ boosted throttle attitude max_boost_thrust }
 {
@@ -149,6 +137,6 @@ pub fn boosted(throttle: f32, attitude: Quaternion, max_boost_thrust: f32) -> Th
     let clipped = clip_thrust(raised.value);
     Thrust {
         value: clipped.value,
-        saturated: either(raised.saturated, clipped.saturated),
+        saturated: raised.saturated || clipped.saturated,
     }
 }

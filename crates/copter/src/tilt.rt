@@ -2,21 +2,20 @@
 ghost use Rattle.std.specs.Prelude.{◌≡◌};
 ghost use Rattle.copter.specs.Tilt.{tilt_for_acceleration, drag_feedforward, velocity_or_zero, wind_or_zero, lateral_target, lateral_estimate, navigable, held, levelled, limit, run, tilt_toward};
 
-use crate::commands::TargetVelocity;
 use crate::config::CopterGuidanceConfig;
 use crate::memory::LateralMemory;
-use controllers::rate_divider::{Due, RateDivider};
+use controllers::rate_divider::RateDivider;
 use lateral::{LateralEstimate, LateralTarget};
 use math::vectors::Vec2;
 use wind::drag::WindConfig;
+use wind::estimate::WindEstimate;
 use wind::state::VehicleState;
-use wind::window::Filter;
 
 // Where to fly: a position, the target's own velocity and the largest speed.
 #[derive(Clone, Copy)]
 pub struct Course {
     pub position_m: Vec2,
-    pub velocity_mps: TargetVelocity,
+    pub velocity_mps: Option<Vec2>,
     pub cruise_speed_mps: f32,
 }
 
@@ -29,6 +28,7 @@ pub struct Tilted {
 
 // Roll and pitch, at a heading, that point the thrust to give an acceleration north and east: a tilt
 // of atan(|a| / g) toward it. Level where a number is not finite.
+#[tactic(auto, unfolding(crate::specs::Tilt::tilt_for_acceleration))]
 pub fn tilt_for_acceleration(accel_mps2: Vec2, heading_rad: f32) -> Vec2
     ensures { result ≡ tilt_for_acceleration accel_mps2 heading_rad }
 {
@@ -47,7 +47,7 @@ pub fn tilt_for_acceleration(accel_mps2: Vec2, heading_rad: f32) -> Vec2
                 x: right,
                 y: -ahead,
             };
-            return toward.times(tilt_rad / norm);
+            return toward * (tilt_rad / norm);
         }
     }
     Vec2::zeros()
@@ -55,6 +55,7 @@ pub fn tilt_for_acceleration(accel_mps2: Vec2, heading_rad: f32) -> Vec2
 
 // The acceleration that holds off the drag of the commanded velocity past the hold band, through air
 // that moves with the wind.
+#[tactic(auto, unfolding(crate::specs::Tilt::drag_feedforward))]
 pub fn drag_feedforward_mps2(
     config: WindConfig,
     hold_band_mps: f32,
@@ -65,7 +66,7 @@ pub fn drag_feedforward_mps2(
     ensures { result ≡ drag_feedforward config hold_band_mps commanded_mps wind_mps heading_rad }
 {
     let leg = math::past(commanded_mps, hold_band_mps);
-    let air = leg.minus(wind_mps);
+    let air = leg - wind_mps;
     let sin = floats::sin_cos::sinf(heading_rad);
     let cos = floats::sin_cos::cosf(heading_rad);
     let body = Vec2 {
@@ -81,36 +82,35 @@ pub fn drag_feedforward_mps2(
     }
 }
 
-fn velocity_or_zero(velocity_mps: TargetVelocity) -> Vec2
+#[tactic(auto, unfolding(crate::specs::Tilt::velocity_or_zero))]
+fn velocity_or_zero(velocity_mps: Option<Vec2>) -> Vec2
     ensures { result ≡ velocity_or_zero velocity_mps }
 {
-    let TargetVelocity::Mps(velocity) = velocity_mps else {
-        return Vec2::zeros();
-    };
-    velocity
+    velocity_mps.unwrap_or(Vec2::zeros())
 }
 
-fn wind_or_zero(estimate: Filter) -> Vec2
+#[tactic(auto, unfolding(crate::specs::Tilt::wind_or_zero))]
+fn wind_or_zero(estimate: Option<WindEstimate>) -> Vec2
     ensures { result ≡ wind_or_zero estimate }
 {
-    let Filter::Estimate(present) = estimate else {
+    let Some(present) = estimate else {
         return Vec2::zeros();
     };
     present.velocity_mps
 }
 
+#[tactic(auto, unfolding(crate::specs::Tilt::lateral_target))]
 fn lateral_target(course: Course) -> LateralTarget
     ensures { result ≡ lateral_target course }
 {
-    let position_m = course.position_m;
-    let velocity_mps = course.velocity_mps;
     LateralTarget {
-        position_m,
-        velocity_mps: velocity_or_zero(velocity_mps),
+        position_m: course.position_m,
+        velocity_mps: velocity_or_zero(course.velocity_mps),
         max_speed_mps: course.cruise_speed_mps,
     }
 }
 
+#[tactic(auto, unfolding(crate::specs::Tilt::lateral_estimate))]
 fn lateral_estimate(state: VehicleState) -> LateralEstimate
     ensures { result ≡ lateral_estimate state }
 {
@@ -127,38 +127,33 @@ fn lateral_estimate(state: VehicleState) -> LateralEstimate
 }
 
 // Whether position error, target velocity, own velocity and heading are finite.
+#[tactic(auto, unfolding(crate::specs::Tilt::navigable))]
 fn navigable(target: LateralTarget, estimate: LateralEstimate, heading_rad: f32) -> bool
     ensures { result ≡ navigable target estimate heading_rad }
 {
-    let position = target.position_m;
-    if math::all_finite(position.minus(estimate.position_m)) {
-        if math::all_finite(target.velocity_mps) {
-            if math::all_finite(estimate.velocity_mps) {
-                return floats::compare::is_finite(heading_rad);
-            }
-        }
-    }
-    false
+    math::all_finite(target.position_m - estimate.position_m)
+        && math::all_finite(target.velocity_mps)
+        && math::all_finite(estimate.velocity_mps)
+        && floats::compare::is_finite(heading_rad)
 }
 
 impl LateralMemory {
     // The tilt of a waypoint or land call: the stored one where the lateral loop is not due, and
     // level for this call where it is due and a number is not finite.
+    #[tactic(auto, unfolding(crate::specs::Tilt::tilt_toward, crate::specs::Tilt::tilted_when))]
     pub fn tilt_toward(
         self,
         config: CopterGuidanceConfig,
         dt: f32,
         course: Course,
-        estimate: Filter,
+        estimate: Option<WindEstimate>,
         state: VehicleState,
     ) -> Tilted
         ensures { result ≡ tilt_toward self config dt course estimate state }
     {
-        let divider = self.rate;
-        let paced = divider.due(dt, config.guidance.navigation_period_s);
+        let paced = self.rate.due(dt, config.guidance.navigation_period_s);
         let rate = paced.divider;
-        let due = paced.due;
-        let Due::Step(step) = due else {
+        let Some(step) = paced.due else {
             return self.held(rate);
         };
         let target = lateral_target(course);
@@ -177,45 +172,34 @@ impl LateralMemory {
     }
 
     // Not due: the stored tilt, and the divider alone goes on.
+    #[tactic(auto, unfolding(crate::specs::Tilt::held))]
     fn held(self, rate: RateDivider) -> Tilted
         ensures { result ≡ held self rate }
     {
-        let controller = self.controller;
-        let stored = self.tilt_rad;
-        let requested_accel_mps2 = self.requested_accel_mps2;
         Tilted {
-            memory: LateralMemory {
-                controller,
-                rate,
-                tilt_rad: stored,
-                tilt_capped: self.tilt_capped,
-                requested_accel_mps2,
-            },
-            tilt_rad: stored,
+            memory: LateralMemory { rate, ..self },
+            tilt_rad: self.tilt_rad,
         }
     }
 
     // Due with a number that is not finite: level, and the stored tilt stays.
+    #[tactic(auto, unfolding(crate::specs::Tilt::levelled))]
     fn levelled(self, rate: RateDivider) -> Tilted
         ensures { result ≡ levelled self rate }
     {
-        let controller = self.controller;
-        let kept = self.tilt_rad;
-        let requested_accel_mps2 = self.requested_accel_mps2;
         let level = Vec2::zeros();
         Tilted {
             memory: LateralMemory {
-                controller,
                 rate,
-                tilt_rad: kept,
                 tilt_capped: false,
-                requested_accel_mps2,
+                ..self
             },
             tilt_rad: level,
         }
     }
 
     // The acceleration at whose limit the craft flies, or zero.
+    #[tactic(auto, unfolding(crate::specs::Tilt::limit))]
     fn limit_mps2(self) -> Vec2
         ensures { result ≡ limit self }
     {
@@ -226,6 +210,7 @@ impl LateralMemory {
     }
 
     // A run of the lateral loop over a step.
+    #[tactic(auto, unfolding(crate::specs::Tilt::run, math::specs::Inner::exceeds))]
     fn run(
         self,
         config: CopterGuidanceConfig,
@@ -237,17 +222,18 @@ impl LateralMemory {
     ) -> Tilted
         ensures { result ≡ run self config step target own wind_mps heading_rad }
     {
-        let before = self.controller;
-        let control = before.control(config.lateral, step, target, own, self.limit_mps2());
+        let control = self
+            .controller
+            .control(config.lateral, step, target, own, self.limit_mps2());
         let controller = control.controller;
-        let asked = control.accel_mps2;
-        let accel_mps2 = asked.plus(drag_feedforward_mps2(
+        let feedforward_mps2 = drag_feedforward_mps2(
             config.wind,
             config.guidance.feedforward_hold_band_mps,
             controller.commanded_velocity_mps,
             wind_mps,
             heading_rad,
-        ));
+        );
+        let accel_mps2 = control.accel_mps2 + feedforward_mps2;
         let requested = tilt_for_acceleration(accel_mps2, heading_rad);
         let tilt_rad = math::cap_magnitude(requested, config.guidance.max_tilt_rad);
         Tilted {

@@ -6,26 +6,15 @@ ghost use Rattle.std.specs.Prelude.{◌≡◌, if◌then◌else◌};
 ghost use Rattle.floats.specs.Ops.{◌⊖◌};
 ghost use Rattle.floats.specs.Atan.{pi, pi_low, atanf_rest, atanf_from, atanf_large, atanf, far_above, atan2f_infinite, atan2f_finite, atan2f_nonzero, atan2f};
 
-use crate::bits::INFINITE;
+use crate::bits::{INFINITE, TINY};
 use crate::{bits, compare};
+use std::f32::consts::{FRAC_PI_2, FRAC_PI_4, PI};
 
-// π.
-const PI: f32 = 3.1415927;
-
-// What π has beyond that.
+// What π has beyond its `f32`.
 const PI_LOW: f32 = -0.00000008742278;
-
-// π/2.
-const PI_2: f32 = 1.5707964;
-
-// π/4.
-const PI_4: f32 = 0.7853982;
 
 // 3π/4.
 const THREE_PI_4: f32 = 2.3561945;
-
-// The pattern of 2^-12.
-const TINY: u32 = 0x3980_0000;
 
 // The pattern of 7/16.
 const SMALL: u32 = 0x3EE0_0000;
@@ -48,6 +37,7 @@ fn atanf_rest(x: f32) -> f32
 }
 
 // atan t and an angle, given in two parts, added up.
+#[tactic(auto, unfolding(crate::specs::Atan::atanf_from))]
 fn atanf_from(high: f32, low: f32, t: f32) -> f32
     ensures { result ≡ atanf_from high low t }
 {
@@ -75,7 +65,7 @@ fn atanf_large(x: f32) -> f32
 pub fn atanf(x: f32) -> f32
     ensures { result ≡ atanf x }
 {
-    if x != x {
+    if x.is_nan() {
         return x;
     }
     let size = bits::size_bits(x);
@@ -107,7 +97,7 @@ fn atan2f_infinite(y: f32, x: f32) -> f32
         if compare::is_negative(x) {
             return compare::with_sign(flip, THREE_PI_4);
         }
-        return compare::with_sign(flip, PI_4);
+        return compare::with_sign(flip, FRAC_PI_4);
     }
     if compare::is_negative(x) {
         return compare::with_sign(flip, PI);
@@ -126,6 +116,7 @@ fn from_left(below: bool, z: f32) -> f32
 }
 
 // The angle of (x, y), neither of which is zero or infinite, where y is not far above x.
+#[tactic(auto, unfolding(crate::specs::Atan::atan2f_finite))]
 fn atan2f_finite(y: f32, x: f32) -> f32
     ensures { result ≡ atan2f_finite y x }
 {
@@ -146,24 +137,26 @@ fn atan2f_nonzero(y: f32, x: f32) -> f32
     if bits::size_bits(x) == INFINITE {
         return atan2f_infinite(y, x);
     }
+    // Not `||`, which is compiled to two tests and one branch.
     if far_above(y, x) {
-        return compare::with_sign(compare::is_negative(y), PI_2);
+        return compare::with_sign(compare::is_negative(y), FRAC_PI_2);
     }
     if bits::size_bits(y) == INFINITE {
-        return compare::with_sign(compare::is_negative(y), PI_2);
+        return compare::with_sign(compare::is_negative(y), FRAC_PI_2);
     }
     atan2f_finite(y, x)
 }
 
 // The angle of (x, y), in radians, from -π to π. Zeros and infinities count with their signs, and a
 // NaN gives a NaN.
+#[tactic(auto, unfolding(crate::specs::Atan::atan2f))]
 pub fn atan2f(y: f32, x: f32) -> f32
     ensures { result ≡ atan2f y x }
 {
-    if x != x {
+    if x.is_nan() {
         return x;
     }
-    if y != y {
+    if y.is_nan() {
         return y;
     }
     if x == 1.0 {
@@ -176,7 +169,7 @@ pub fn atan2f(y: f32, x: f32) -> f32
         return y;
     }
     if x == 0.0 {
-        return compare::with_sign(compare::is_negative(y), PI_2);
+        return compare::with_sign(compare::is_negative(y), FRAC_PI_2);
     }
     atan2f_nonzero(y, x)
 }

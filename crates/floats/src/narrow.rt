@@ -3,11 +3,13 @@ ghost use Rattle.std.specs.Prelude.{◌≡◌};
 ghost use Rattle.std.specs.Float.{binary32};
 ghost use Rattle.floats.specs.Narrow.{convert};
 
+use crate::bits;
+
 // The weight of the sign's bit in a pattern of `f64`, 2^63.
 const SIGN64: u64 = 0x8000_0000_0000_0000;
 
 // The same in a pattern of `f32`, 2^31.
-const SIGN32: u64 = 0x8000_0000;
+const SIGN32: u64 = bits::SIGN as u64;
 
 // The pattern, as an `f64`, of 2^-126, the smallest normal `f32`.
 const NORMAL: u64 = 0x3810_0000_0000_0000;
@@ -31,7 +33,7 @@ const STEP: u64 = 0x2000_0000;
 const BELOW_HALF: u64 = 0x0FFF_FFFF;
 
 // The pattern of the infinity as an `f32`.
-const INFINITE: u64 = 0x7F80_0000;
+const INFINITE: u64 = bits::INFINITE as u64;
 
 // In the normal range the pattern is rounded as a number: the sum reaches the next step where what is
 // dropped is above half of one, or is half of one and the kept digits are odd. A carry out of the
@@ -39,8 +41,8 @@ const INFINITE: u64 = 0x7F80_0000;
 pub fn narrow(x: f64) -> f32
     ensures { result ≡ convert binary32 x }
 {
-    if x != x {
-        return 0.0 / 0.0;
+    if x.is_nan() {
+        return f32::NAN;
     }
     let bits = f64::to_bits(x);
     let sign = bits / SIGN64 * SIGN32;

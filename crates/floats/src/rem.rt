@@ -4,11 +4,8 @@ ghost use Rattle.std.specs.Float.{binary32};
 ghost use Rattle.std.specs.Float.Ieee.{rem};
 ghost use Rattle.std.specs.Float.Ieee.Exact.{HasValue};
 
-use crate::bits::{INFINITE, size_bits};
+use crate::bits::{INFINITE, LEAD, size_bits};
 use crate::compare::{is_negative, with_sign};
-
-// The weight of the exponent's field in a pattern of `f32`, and of the leading digit: 2^23.
-const LEAD: u32 = 0x80_0000;
 
 // A size with the pattern `size` is `digits(size)` * 2^(`place(size)` - 149).
 fn digits(size: u32) -> u32
@@ -59,19 +56,16 @@ fn power(k: u32) -> f32
 pub fn rem(x: f32, y: f32) -> f32
     ensures { result ≡ rem binary32 x y }
 {
-    if x != x {
+    if x.is_nan() {
         return x;
     }
-    if y != y {
+    if y.is_nan() {
         return y;
     }
     let a = size_bits(x);
     let b = size_bits(y);
-    if a == INFINITE {
-        return 0.0 / 0.0;
-    }
-    if b == 0 {
-        return 0.0 / 0.0;
+    if a == INFINITE || b == 0 {
+        return f32::NAN;
     }
     if a < b {
         return x;

@@ -8,22 +8,24 @@ ghost use Rattle.floats.specs.Narrow.{convert};
 ghost use Rattle.floats.specs.Ops.{◌⊞◌, ◌⊟◌};
 ghost use Rattle.floats.specs.SinCos.{k_sinf, k_cosf, quadrant, rem_pio2f, negative, by_quadrant, sinf_near, sinf_far, sinf_reduced, sinf, cosf_near, cosf_far, cosf_reduced, cosf};
 
+use crate::bits::TINY;
 use crate::{bits, compare, narrow};
+use std::f64::consts;
 
 // π/2.
-const PIO2_TIMES_1: f64 = 1.5707963267948966;
+const PIO2_TIMES_1: f64 = consts::FRAC_PI_2;
 
 // π.
-const PIO2_TIMES_2: f64 = 3.141592653589793;
+const PIO2_TIMES_2: f64 = consts::PI;
 
 // 3π/2.
 const PIO2_TIMES_3: f64 = 4.71238898038469;
 
 // 2π.
-const PIO2_TIMES_4: f64 = 6.283185307179586;
+const PIO2_TIMES_4: f64 = consts::TAU;
 
 // 2/π.
-const INV_PIO2: f64 = 0.6366197723675814;
+const INV_PIO2: f64 = consts::FRAC_2_PI;
 
 // 1.5 * 2^52: at this size the last digit of an `f64` is worth 1.
 const TOINT: f64 = 6755399441055744.0;
@@ -52,9 +54,6 @@ const UPTO_7PI_4: u32 = 0x40AF_EDDF;
 // The pattern of the largest `f32` below 9π/4, 7.068583.
 const UPTO_9PI_4: u32 = 0x40E2_31D5;
 
-// The pattern of 2^-12.
-const TINY: u32 = 0x3980_0000;
-
 // The sine of x in [-π/4, π/4].
 fn k_sinf(x: f64) -> f32
     ensures { result ≡ k_sinf x }
@@ -70,10 +69,8 @@ fn k_sinf(x: f64) -> f32
 fn narrow_cosine(y: f64) -> f32
     ensures { result ≡ convert binary32 y }
 {
-    if 0.5 <= y {
-        if y < 1.0 {
-            return (y + ALIGN - ALIGN) as f32;
-        }
+    if 0.5 <= y && y < 1.0 {
+        return (y + ALIGN - ALIGN) as f32;
     }
     narrow::narrow(y)
 }
@@ -89,19 +86,17 @@ fn k_cosf(x: f64) -> f32
 }
 
 // How many quarter turns are nearest to x, modulo 4.
+#[tactic(auto, unfolding(crate::specs::SinCos::quadrant))]
 fn quadrant(x: f64) -> u64
     ensures value { result ≡ quadrant x }
     ensures upper_bound { result < 4 }
 {
-    let turns = x * INV_PIO2 + TOINT;
-    if turns != turns {
-        return 0;
-    }
-    f64::to_bits(turns) % 4
+    std::num::f64_to_bits_with_nan(x * INV_PIO2 + TOINT) % 4
 }
 
 // x without these quarter turns. Past 2^28 π/2 in size the source goes on to another method, and this one
 // is only total.
+#[tactic(auto, unfolding(crate::specs::SinCos::rem_pio2f))]
 fn rem_pio2f(x: f64) -> f64
     ensures { result ≡ rem_pio2f x }
 {
@@ -140,23 +135,22 @@ fn sinf_far(x: f32) -> f32
     -compare::with_sign(x < 0.0, k_cosf(nearer(x, PIO2_TIMES_3)))
 }
 
-// The sine of y in [-π/4, π/4] and n quarter turns, for an n from 0 to 3.
+// The sine of y in [-π/4, π/4] and n quarter turns, for an n from 0 to 3: a number, since it is one more
+// for a cosine.
+#[tactic(auto, unfolding(crate::specs::SinCos::by_quadrant))]
 fn by_quadrant(n: u64, y: f64) -> f32
     ensures { result ≡ by_quadrant n y }
 {
-    if n == 0 {
-        return k_sinf(y);
+    match n {
+        0 => k_sinf(y),
+        1 => k_cosf(y),
+        2 => k_sinf(-y),
+        _ => -k_cosf(y),
     }
-    if n == 1 {
-        return k_cosf(y);
-    }
-    if n == 2 {
-        return k_sinf(-y);
-    }
-    -k_cosf(y)
 }
 
 // The sine of x of any size, by its quarter turns.
+#[tactic(auto, unfolding(crate::specs::SinCos::sinf_reduced))]
 fn sinf_reduced(x: f32) -> f32
     ensures { result ≡ sinf_reduced x }
 {
@@ -168,7 +162,7 @@ fn sinf_reduced(x: f32) -> f32
 pub fn sinf(x: f32) -> f32
     ensures { result ≡ sinf x }
 {
-    if x != x {
+    if x.is_nan() {
         return x;
     }
     let size = bits::size_bits(x);
@@ -208,6 +202,7 @@ fn cosf_far(x: f32) -> f32
 }
 
 // The cosine of x of any size: the sine a quarter turn on.
+#[tactic(auto, unfolding(crate::specs::SinCos::cosf_reduced))]
 fn cosf_reduced(x: f32) -> f32
     ensures { result ≡ cosf_reduced x }
 {
@@ -219,7 +214,7 @@ fn cosf_reduced(x: f32) -> f32
 pub fn cosf(x: f32) -> f32
     ensures { result ≡ cosf x }
 {
-    if x != x {
+    if x.is_nan() {
         return x;
     }
     let size = bits::size_bits(x);

@@ -20,11 +20,7 @@ fn guess(n: u64) -> u64
     let once = 0.5 * (near + z / near);
     let twice = (once + z / once) * 8388608.0;
     // A sum with 2^52 is whole. Half less is added, so that it is mostly the whole part.
-    let whole = twice + 4503599627370495.5;
-    if whole != whole {
-        return 0;
-    }
-    f64::to_bits(whole) % 4294967296
+    std::num::f64_to_bits_with_nan(twice + 4503599627370495.5) % 4294967296
 }
 
 // The largest number whose square is at most n.
@@ -32,6 +28,7 @@ fn whole_root(n: u64) -> u64
     ensures { result ≡ whole_root n }
 {
     let mut r = guess(n);
+    // From the guess down and up to the root: a search by value, over no items.
     while r * r > n {
         r -= 1;
     }
@@ -50,9 +47,9 @@ fn sqrtf_by_digits(x: f32) -> f32
         return x;
     }
     if !(0.0 < x) {
-        return 0.0 / 0.0;
+        return f32::NAN;
     }
-    if x == f32::from_bits(2139095040) {
+    if x == f32::INFINITY {
         return x;
     }
     // As an `f64` x is normal: `digits` * 2^(`exponent` - 1075). The last 29 of the 53 digits are 0.
@@ -100,10 +97,7 @@ fn is_root(x: f32, pattern: u64) -> bool
         return false;
     }
     // q is √k rounded where (q - 1/2)² < k < (q + 1/2)²: where k is above q² - q and at most q² + q.
-    if k + q <= q * q {
-        return false;
-    }
-    k <= q * q + q
+    q * q < k + q && k <= q * q + q
 }
 
 // For most x above zero a guess is checked. Where it fails, and for any other x, the digits decide.
@@ -111,16 +105,14 @@ pub fn sqrtf(x: f32) -> f32
     ensures { result ≡ sqrt binary32 x }
 {
     // From 10^-37 to 3 * 10^38, so that x is normal.
-    if 0.0000000000000000000000000000000000001 <= x {
-        if x <= 300000000000000000000000000000000000000.0 {
-            let s = near(x as f64, f32::to_bits(x));
-            if s == s {
-                // The exponent's field of s is that of the root as an `f32`. So the pattern of s less
-                // its last 29 digits, rounded, is that of the root.
-                let pattern = (f64::to_bits(s) / 268435456 + 1) / 2;
-                if is_root(x, pattern) {
-                    return f32::from_bits(pattern as u32);
-                }
+    if 1e-37 <= x && x <= 3e38 {
+        let s = near(x as f64, f32::to_bits(x));
+        if !s.is_nan() {
+            // The exponent's field of s is that of the root as an `f32`. So the pattern of s less its
+            // last 29 digits, rounded, is that of the root.
+            let pattern = (f64::to_bits(s) / 268435456 + 1) / 2;
+            if is_root(x, pattern) {
+                return f32::from_bits(pattern as u32);
             }
         }
     }

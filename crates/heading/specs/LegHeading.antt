@@ -1,5 +1,5 @@
 -- The heading along a waypoint leg, from leg_heading.rs. Assumes nothing.
-use Rattle.std.specs.Prelude.{◌≡◌, Bool, true, false, cond, ◌&&◌, Float}
+use Rattle.std.specs.Prelude.{◌≡◌, Bool, true, false, cond, ◌&&◌, Float, None, Option, Some}
 use Rattle.std.specs.Float.Ieee.{lt, le}
 use Rattle.std.specs.Float.Ieee.Scale.{finite}
 use Rattle.floats.specs.Ops.{◌⊕◌, ◌⊖◌, ◌⊗◌}
@@ -9,28 +9,24 @@ use Rattle.math.specs.Math.{zero, all_finite, clamp_symmetric, wrap_angle}
 use Rattle.math.specs.Vectors.{minus, norm}
 use Rattle.math.specs.declared.vectors.Vec2.{Vec2}
 use Rattle.wind.specs.declared.state.VehicleState.{VehicleState}
-use Rattle.wind.specs.declared.window.Filter.{Filter}
 use Rattle.heading.specs.Equality.{same_vector}
 use Rattle.heading.specs.declared.HeadingConfig.{HeadingConfig}
-use Rattle.heading.specs.declared.Angle.{Angle}
-use Rattle.heading.specs.declared.Angle.TheVariants.{Nothing, Rad}
 use Rattle.heading.specs.declared.wind_heading.WindHeading.{WindHeading}
 use Rattle.heading.specs.declared.wind_heading.WindTurn.{WindTurn}
 use Rattle.heading.specs.declared.leg_heading.Leg.{Leg}
-use Rattle.heading.specs.declared.leg_heading.LegMemory.{LegMemory}
-use Rattle.heading.specs.declared.leg_heading.LegMemory.TheVariants as legs
 use Rattle.heading.specs.declared.leg_heading.LegHeading.{LegHeading}
 use Rattle.heading.specs.declared.leg_heading.Turn.{Turn}
 use Rattle.heading.specs.declared.leg_heading.Bearing.{Bearing}
 use Rattle.heading.specs.declared.leg_heading.Yielded.{Yielded}
+use Rattle.wind.specs.declared.estimate.WindEstimate.{WindEstimate}
 use Rattle.heading.specs.WindHeading as wind
 
 unfoldable pub fresh : LegHeading
-fresh = record { leg = legs.Nothing; stuck_s = zero; yielding = false; wind = wind.fresh }
+fresh = record { leg = None; stuck_s = zero; yielding = false; wind = wind.fresh }
 
 -- the leg and the yielding forgotten, the wind heading kept
 unfoldable pub cleared : LegHeading → LegHeading
-cleared self = record { leg = legs.Nothing; stuck_s = zero; yielding = false; wind = self.wind }
+cleared self = record { leg = None; stuck_s = zero; yielding = false; wind = self.wind }
 
 unfoldable pub with_wind : LegHeading → WindHeading → LegHeading
 with_wind self wind = record { leg = self.leg; stuck_s = self.stuck_s; yielding = self.yielding; wind = wind }
@@ -51,23 +47,23 @@ unfoldable pub on_leg : Leg → Vec2 → Bool
 on_leg leg position = same_vector leg.to_m position
 
 -- the direction of a leg that is longer than the least one
-unfoldable pub leg_bearing : HeadingConfig → Vec2 → Angle
+unfoldable pub leg_bearing : HeadingConfig → Vec2 → Option Float
 leg_bearing config leg =
-    cond (lt config.waypoint_yaw_min_leg_m (norm leg)) (Rad (atan2f leg.y leg.x)) Nothing
+    cond (lt config.waypoint_yaw_min_leg_m (norm leg)) (Some (atan2f leg.y leg.x)) None
 
 -- A new position sets the yield count to 0 and ends yielding. It starts a new leg if the craft's own position is finite, else no leg is remembered.
 unfoldable pub new_leg : LegHeading → HeadingConfig → Vec2 → Vec2 → Bearing
 new_leg self config position here =
     let bearing = leg_bearing config (minus position here) in
-    let leg = legs.Flown (record { to_m = position; bearing_rad = bearing }) in
+    let leg = Some (record { to_m = position; bearing_rad = bearing }) in
     cond (all_finite here)
     (record { memory = record { leg = leg; stuck_s = zero; yielding = false; wind = self.wind }; bearing_rad = bearing })
-    (record { memory = cleared self; bearing_rad = Nothing })
+    (record { memory = cleared self; bearing_rad = None })
 
 -- with no leg remembered every position is new
-unfoldable pub bearing_of : LegMemory → LegHeading → HeadingConfig → Vec2 → Vec2 → Bearing
-bearing_of legs.Nothing self config position here = new_leg self config position here
-bearing_of (legs.Flown leg) self config position here =
+unfoldable pub bearing_of : Option Leg → LegHeading → HeadingConfig → Vec2 → Vec2 → Bearing
+bearing_of None self config position here = new_leg self config position here
+bearing_of (Some leg) self config position here =
     cond (on_leg leg position) (record { memory = self; bearing_rad = leg.bearing_rad }) (new_leg self config position here)
 
 unfoldable pub bearing : LegHeading → HeadingConfig → Vec2 → Vec2 → Bearing
@@ -75,9 +71,9 @@ unfolding bearing_of
 bearing self config position here = bearing_of self.leg self config position here
 
 -- the leg has no direction, or the craft is within the least leg of the waypoint
-unfoldable pub on_station : Angle → HeadingConfig → Vec2 → Bool
-on_station Nothing config to = true
-on_station (Rad bearing) config to = le (norm to) config.waypoint_yaw_min_leg_m
+unfoldable pub on_station : Option Float → HeadingConfig → Vec2 → Bool
+on_station None config to = true
+on_station (Some bearing) config to = le (norm to) config.waypoint_yaw_min_leg_m
 
 -- ---- yielding
 
@@ -111,38 +107,38 @@ yielded self dt config target state =
 -- ---- the heading to turn to
 
 -- a leg with a direction, flown with a positive yaw rate
-unfoldable pub turned_along : Angle → Float → HeadingConfig → Float → Float
-turned_along Nothing dt config target = target
-turned_along (Rad bearing) dt config target =
+unfoldable pub turned_along : Option Float → Float → HeadingConfig → Float → Float
+turned_along None dt config target = target
+turned_along (Some bearing) dt config target =
     cond (lt zero config.waypoint_yaw_radps) (turned_toward target bearing (config.waypoint_yaw_radps ⊗ dt)) target
 
 -- the craft's own heading where it yields, else along the leg
-unfoldable pub along_leg : LegHeading → Float → HeadingConfig → Float → Angle → VehicleState → Turn
+unfoldable pub along_leg : LegHeading → Float → HeadingConfig → Float → Option Float → VehicleState → Turn
 unfolding turned_along
 along_leg self dt config target bearing state =
     let y = yielded self dt config target state in
     record { memory = y.memory; heading_rad = cond y.yields state.heading_rad (turned_along bearing dt config target) }
 
 -- the wind's heading, which is asked for on station only
-unfoldable pub station_turn : Bool → WindHeading → HeadingConfig → Filter → Float → WindTurn
+unfoldable pub station_turn : Bool → WindHeading → HeadingConfig → Option WindEstimate → Float → WindTurn
 station_turn on memory config estimate heading =
-    cond on (wind.target memory config estimate heading) (record { wind = memory; target_rad = Nothing })
+    cond on (wind.target memory config estimate heading) (record { wind = memory; target_rad = None })
 
 -- where the wind gives a heading it is turned to, else the leg's
-unfoldable pub wind_or_leg : Angle → LegHeading → Float → HeadingConfig → Float → Angle → VehicleState → Turn
-wind_or_leg Nothing self dt config target bearing state = along_leg self dt config target bearing state
-wind_or_leg (Rad heading) self dt config target bearing state = record { memory = self; heading_rad = commanded_turn dt config target heading }
+unfoldable pub wind_or_leg : Option Float → LegHeading → Float → HeadingConfig → Float → Option Float → VehicleState → Turn
+wind_or_leg None self dt config target bearing state = along_leg self dt config target bearing state
+wind_or_leg (Some heading) self dt config target bearing state = record { memory = self; heading_rad = commanded_turn dt config target heading }
 
 abbrev pub here_of : VehicleState → Vec2
 here_of state = record { x = state.position_m.x; y = state.position_m.y }
 
 -- what the wind is asked in a call
-abbrev pub wind_turn : Bearing → HeadingConfig → Vec2 → Filter → VehicleState → WindTurn
+abbrev pub wind_turn : Bearing → HeadingConfig → Vec2 → Option WindEstimate → VehicleState → WindTurn
 wind_turn leg config position estimate state =
     station_turn (on_station leg.bearing_rad config (minus position (here_of state))) leg.memory.wind config estimate state.heading_rad
 
 -- with no finite commanded heading
-unfoldable pub uncommanded : LegHeading → Float → HeadingConfig → Float → Vec2 → Filter → VehicleState → Turn
+unfoldable pub uncommanded : LegHeading → Float → HeadingConfig → Float → Vec2 → Option WindEstimate → VehicleState → Turn
 unfolding wind_or_leg
 uncommanded self dt config target position estimate state =
     let leg = bearing self config position (here_of state) in
@@ -150,27 +146,27 @@ uncommanded self dt config target position estimate state =
     wind_or_leg turn.target_rad (with_wind leg.memory turn.wind) dt config target leg.bearing_rad state
 
 -- a commanded heading that is not finite counts as none
-unfoldable pub finite_angle : Angle → Angle
-finite_angle Nothing = Nothing
-finite_angle (Rad heading) = cond (finite heading) (Rad heading) Nothing
+unfoldable pub finite_angle : Option Float → Option Float
+finite_angle None = None
+finite_angle (Some heading) = cond (finite heading) (Some heading) None
 
-unfoldable pub target_at : Angle → LegHeading → Float → HeadingConfig → Float → Vec2 → Filter → VehicleState → Turn
-target_at Nothing self dt config target position estimate state = uncommanded self dt config target position estimate state
-target_at (Rad heading) self dt config target position estimate state =
+unfoldable pub target_at : Option Float → LegHeading → Float → HeadingConfig → Float → Vec2 → Option WindEstimate → VehicleState → Turn
+target_at None self dt config target position estimate state = uncommanded self dt config target position estimate state
+target_at (Some heading) self dt config target position estimate state =
     record { memory = fresh; heading_rad = commanded_turn dt config target heading }
 
 -- a finite commanded heading resets all
-unfoldable pub target : LegHeading → Float → HeadingConfig → Float → Vec2 → Angle → Filter → VehicleState → Turn
+unfoldable pub target : LegHeading → Float → HeadingConfig → Float → Vec2 → Option Float → Option WindEstimate → VehicleState → Turn
 unfolding target_at
 target self dt config heading position commanded estimate state = target_at (finite_angle commanded) self dt config heading position estimate state
 
 -- ---- landing: the heading is held, or turned with the wind
 
-unfoldable pub held_or_turned : Angle → LegHeading → Float → HeadingConfig → Float → Turn
-held_or_turned Nothing self dt config target = record { memory = self; heading_rad = target }
-held_or_turned (Rad heading) self dt config target = record { memory = self; heading_rad = commanded_turn dt config target heading }
+unfoldable pub held_or_turned : Option Float → LegHeading → Float → HeadingConfig → Float → Turn
+held_or_turned None self dt config target = record { memory = self; heading_rad = target }
+held_or_turned (Some heading) self dt config target = record { memory = self; heading_rad = commanded_turn dt config target heading }
 
-unfoldable pub land_target : LegHeading → Float → HeadingConfig → Float → Filter → VehicleState → Turn
+unfoldable pub land_target : LegHeading → Float → HeadingConfig → Float → Option WindEstimate → VehicleState → Turn
 unfolding held_or_turned
 land_target self dt config heading estimate state =
     let kept = cleared self in
@@ -180,9 +176,9 @@ land_target self dt config heading estimate state =
 -- ---- what is said of it
 
 -- A position that is not the leg's is new; with no leg remembered every one is.
-abbrev pub New : LegMemory → Vec2 → Type 0
-New legs.Nothing position = Unit {0}
-New (legs.Flown leg) position = on_leg leg position ≡ false
+abbrev pub New : Option Leg → Vec2 → Type 0
+New None position = Unit {0}
+New (Some leg) position = on_leg leg position ≡ false
 
 -- the leg that starts at a new position
 abbrev pub started : HeadingConfig → Vec2 → Vec2 → Leg

@@ -4,35 +4,29 @@ ghost use Rattle.std.specs.Prelude.{◌≡◌};
 ghost use Rattle.heading.specs.HoverWind.{fresh, airborne, latched, prime, update, estimate};
 
 use wind::drag::WindConfig;
+use wind::estimate::WindEstimate;
 use wind::state::VehicleState;
-use wind::window::{Filter, WindEstimator};
+use wind::window::WindEstimator;
 
-// The altitude of the ground, in metres, as the last priming on the ground had it: none before the
-// first one, and where that altitude was not finite.
-#[derive(Clone, Copy)]
-pub enum GroundAltitude {
-    Nothing,
-    Metres(f32),
-}
-
-// Wind memory: what an update and a priming carry from record to record.
-#[derive(Clone, Copy)]
+// Wind memory: what an update and a priming carry from record to record. `ground_altitude_m` is the
+// altitude of the ground as the last priming on the ground had it: none before the first one, and where
+// that altitude was not finite.
+#[derive(Clone, Copy, Default)]
 pub struct HoverWind {
     pub estimator: WindEstimator,
-    pub ground_altitude_m: GroundAltitude,
+    pub ground_altitude_m: Option<f32>,
 }
 
 impl HoverWind {
+    #[tactic(auto, unfolding(crate::specs::HoverWind::fresh, wind::specs::Wind::fresh, wind::specs::Wind::empty))]
     pub fn new() -> HoverWind
         ensures { result ≡ fresh }
     {
-        HoverWind {
-            estimator: WindEstimator::new(),
-            ground_altitude_m: GroundAltitude::Nothing,
-        }
+        HoverWind::default()
     }
 
     // Feeds the state to the estimator while airborne.
+    #[tactic(auto, unfolding(crate::specs::HoverWind::update))]
     pub fn update(
         self,
         dt: f32,
@@ -43,11 +37,9 @@ impl HoverWind {
         ensures { result ≡ update self dt config airborne_height_m state }
     {
         if self.airborne(airborne_height_m, state) {
-            let estimator = self.estimator;
-            let ground_altitude_m = self.ground_altitude_m;
             return HoverWind {
-                estimator: estimator.update(dt, config, state),
-                ground_altitude_m,
+                estimator: self.estimator.update(dt, config, state),
+                ..self
             };
         }
         self
@@ -55,6 +47,7 @@ impl HoverWind {
 
     // On the ground, which is where the craft is not airborne, remembers the altitude and forgets the
     // wind; in the air, keeps both.
+    #[tactic(auto, unfolding(crate::specs::HoverWind::prime))]
     pub fn prime(self, airborne_height_m: f32, state: VehicleState) -> HoverWind
         ensures { result ≡ prime self airborne_height_m state }
     {
@@ -68,32 +61,27 @@ impl HoverWind {
     }
 
     // The estimator's wind.
-    pub fn estimate(self) -> Filter
+    pub fn estimate(self) -> Option<WindEstimate>
         ensures { result ≡ estimate self }
     {
-        let estimator = self.estimator;
-        estimator.estimate()
+        self.estimator.estimate()
     }
 
     // Whether the craft is more than `airborne_height_m` above the ground: never where none is
     // remembered, or with a NaN.
+    #[tactic(auto, unfolding(crate::specs::HoverWind::airborne, crate::specs::HoverWind::above))]
     fn airborne(self, airborne_height_m: f32, state: VehicleState) -> bool
         ensures { result ≡ airborne self airborne_height_m state }
     {
-        let ground_altitude_m = self.ground_altitude_m;
-        let GroundAltitude::Metres(ground_m) = ground_altitude_m else {
-            return false;
-        };
-        state.position_m.z > ground_m + airborne_height_m
+        self.ground_altitude_m.is_some_and(|ground_m| state.position_m.z
+            > ground_m + airborne_height_m)
     }
 }
 
 // An altitude as the ground's, none where it is not finite.
-fn latched(altitude_m: f32) -> GroundAltitude
+#[tactic(auto, unfolding(crate::specs::HoverWind::latched))]
+fn latched(altitude_m: f32) -> Option<f32>
     ensures { result ≡ latched altitude_m }
 {
-    if floats::compare::is_finite(altitude_m) {
-        return GroundAltitude::Metres(altitude_m);
-    }
-    GroundAltitude::Nothing
+    floats::compare::is_finite(altitude_m).then_some(altitude_m)
 }

@@ -2,7 +2,6 @@
 // along the leg, with a wingtip into the wind, or with the craft where it cannot turn.
 #![tactic(auto)]
 
-pub mod equality;
 pub mod hover_wind;
 pub mod leg_heading;
 pub mod wind_heading;
@@ -20,11 +19,4 @@ pub struct HeadingConfig {
     pub wind_heading_from_wind_rad: f32,
     pub wind_heading_max_sd_rad: f32,
     pub wind_heading_deadband_rad: f32,
-}
-
-// An angle, or none.
-#[derive(Clone, Copy)]
-pub enum Angle {
-    Nothing,
-    Rad(f32),
 }

@@ -1,5 +1,5 @@
 -- Lateral control, from controllers/lateral.rs. Assumes nothing.
-use Rattle.std.specs.Prelude.{cond, false, ◌&&◌, Float}
+use Rattle.std.specs.Prelude.{cond, false, ◌&&◌, Float, None, Option, Some, unwrap_or}
 use Rattle.std.specs.Float.{inf}
 use Rattle.std.specs.Float.Ieee.{lt, le}
 use Rattle.std.specs.Float.Ieee.Scale.{finite}
@@ -7,19 +7,16 @@ use Rattle.floats.specs.Ops.{◌⊗◌, ◌⊘◌}
 use Rattle.math.specs.Math.{zero, cap_magnitude, clamp_symmetric_each, all_finite, shaped_closing_speed}
 use Rattle.math.specs.Vectors.{zeros, plus, minus, times, over, dot, norm}
 use Rattle.math.specs.declared.vectors.Vec2.{Vec2}
-use Rattle.controllers.specs.Derivative.{step, forget}
-use Rattle.controllers.specs.declared.derivative.DerivativeState.TheVariants.{Empty}
+use Rattle.controllers.specs.Derivative.{no_history, step, forget}
 use Rattle.lateral.specs.declared.LateralControllerConfig.{LateralControllerConfig}
 use Rattle.lateral.specs.declared.LateralTarget.{LateralTarget}
 use Rattle.lateral.specs.declared.LateralEstimate.{LateralEstimate}
-use Rattle.lateral.specs.declared.ShapedVelocity.{ShapedVelocity}
-use Rattle.lateral.specs.declared.ShapedVelocity.TheVariants.{Nothing, At}
 use Rattle.lateral.specs.declared.LateralController.{LateralController}
 use Rattle.lateral.specs.declared.Shaping.{Shaping}
 use Rattle.lateral.specs.declared.LateralControl.{LateralControl}
 
 unfoldable pub fresh : LateralController
-fresh = record { integrated_error = zeros; derivative = Empty; shaped_velocity_mps = Nothing; commanded_velocity_mps = zeros }
+fresh = record { integrated_error = zeros; derivative = no_history; shaped_velocity_mps = None; commanded_velocity_mps = zeros }
 
 -- ---- the velocity to fly
 
@@ -45,19 +42,15 @@ desired_velocity config target estimate =
 
 -- ---- shaping
 
-unfoldable pub shaped_from : ShapedVelocity → Vec2 → Vec2
-shaped_from Nothing measured = measured
-shaped_from (At velocity) measured = velocity
-
-unfoldable pub shape : ShapedVelocity → Float → Float → Vec2 → Vec2 → Shaping
+unfoldable pub shape : Option Vec2 → Float → Float → Vec2 → Vec2 → Shaping
 shape shaped max_accel dt demand measured =
-    let from = shaped_from shaped measured in
+    let from = unwrap_or shaped measured in
     let to = plus from (cap_magnitude (minus demand from) (max_accel ⊗ dt)) in
     cond (lt zero max_accel)
     (cond (all_finite demand && all_finite measured)
-    (record { shaped_velocity_mps = At to; commanded_mps = to; feedforward_mps2 = over (minus to from) dt })
+    (record { shaped_velocity_mps = Some to; commanded_mps = to; feedforward_mps2 = over (minus to from) dt })
     (record { shaped_velocity_mps = shaped; commanded_mps = demand; feedforward_mps2 = zeros }))
-    (record { shaped_velocity_mps = Nothing; commanded_mps = demand; feedforward_mps2 = zeros })
+    (record { shaped_velocity_mps = None; commanded_mps = demand; feedforward_mps2 = zeros })
 
 -- ---- the controller
 

@@ -3,7 +3,7 @@
 #![tactic(auto)]
 
 ghost use Rattle.std.specs.Prelude.{◌≡◌};
-ghost use Rattle.lateral.specs.Lateral.{fresh, max_speed, braking_decel, closing_velocity, shape, shaped_from, hold_against_limit, desired_velocity, tracked, neutral, control};
+ghost use Rattle.lateral.specs.Lateral.{fresh, max_speed, braking_decel, closing_velocity, shape, hold_against_limit, desired_velocity, tracked, neutral, control};
 
 use controllers::Gains;
 use controllers::derivative::DerivativeState;
@@ -38,26 +38,20 @@ pub struct LateralEstimate {
     pub velocity_mps: Vec2,
 }
 
-// The velocity that shaping has reached; none before the first shaped call and while shaping is off.
-#[derive(Clone, Copy)]
-pub enum ShapedVelocity {
-    Nothing,
-    At(Vec2),
-}
-
-// `commanded_velocity_mps` is the velocity that the last finite call tracked.
-#[derive(Clone, Copy)]
+// `shaped_velocity_mps` is the velocity that shaping has reached: none before the first shaped call and
+// while shaping is off. `commanded_velocity_mps` is the velocity that the last finite call tracked.
+#[derive(Clone, Copy, Default)]
 pub struct LateralController {
     pub integrated_error: Vec2,
     pub derivative: DerivativeState,
-    pub shaped_velocity_mps: ShapedVelocity,
+    pub shaped_velocity_mps: Option<Vec2>,
     pub commanded_velocity_mps: Vec2,
 }
 
 // The shaped velocity after a call, the velocity to fly and the acceleration fed forward.
 #[derive(Clone, Copy)]
 pub struct Shaping {
-    pub shaped_velocity_mps: ShapedVelocity,
+    pub shaped_velocity_mps: Option<Vec2>,
     pub commanded_mps: Vec2,
     pub feedforward_mps2: Vec2,
 }
@@ -70,19 +64,16 @@ pub struct LateralControl {
 }
 
 impl LateralController {
+    #[tactic(auto, unfolding(crate::specs::Lateral::fresh))]
     pub fn new() -> LateralController
         ensures { result ≡ fresh }
     {
-        LateralController {
-            integrated_error: Vec2::zeros(),
-            derivative: DerivativeState::Empty,
-            shaped_velocity_mps: ShapedVelocity::Nothing,
-            commanded_velocity_mps: Vec2::zeros(),
-        }
+        LateralController::default()
     }
 
     // The horizontal acceleration towards `target` over `dt` seconds. `limit_mps2` is the acceleration
     // that the caller last had to cap, or zero: the integral does not grow towards it.
+    #[tactic(auto, unfolding(crate::specs::Lateral::control))]
     pub fn control(
         self,
         config: LateralControllerConfig,
@@ -94,26 +85,23 @@ impl LateralController {
         ensures { result ≡ control self config dt target estimate limit_mps2 }
     {
         let desired_velocity = desired_velocity(config, target, estimate);
-        let shaped_before = self.shaped_velocity_mps;
         let shaping = shape(
-            shaped_before,
+            self.shaped_velocity_mps,
             config.max_accel_mps2,
             dt,
             math::cap_magnitude(desired_velocity, max_speed(target.max_speed_mps)),
             estimate.velocity_mps,
         );
-        let commanded = shaping.commanded_mps;
-        let velocity_error = commanded.minus(estimate.velocity_mps);
+        let velocity_error = shaping.commanded_mps - estimate.velocity_mps;
         // The cap makes a velocity of no finite length zero, so the desired velocity is tested too.
-        if math::all_finite(desired_velocity) {
-            if math::all_finite(velocity_error) {
-                return self.tracked(config, dt, shaping, velocity_error, limit_mps2);
-            }
+        if math::all_finite(desired_velocity) && math::all_finite(velocity_error) {
+            return self.tracked(config, dt, shaping, velocity_error, limit_mps2);
         }
         self.neutral(shaping)
     }
 
     // A call whose velocities are finite.
+    #[tactic(auto, unfolding(crate::specs::Lateral::tracked))]
     fn tracked(
         self,
         config: LateralControllerConfig,
@@ -125,50 +113,41 @@ impl LateralController {
         ensures { result ≡ tracked self config dt shaping velocity_error limit_mps2 }
     {
         let gains = config.velocity;
-        let history = self.derivative;
-        let stepped = history.step(velocity_error, dt);
+        let stepped = self.derivative.step(velocity_error, dt);
         let integral = math::clamp_symmetric_each(
             hold_against_limit(
                 self.integrated_error,
-                velocity_error.times(dt),
+                velocity_error * dt,
                 gains.i,
                 limit_mps2,
             ),
             config.max_integral,
         );
-        let derivative = stepped.state;
-        let error_derivative = stepped.derivative;
-        let shaped_velocity_mps = shaping.shaped_velocity_mps;
-        let commanded_velocity_mps = shaping.commanded_mps;
-        let feedforward_mps2 = shaping.feedforward_mps2;
         LateralControl {
             controller: LateralController {
                 integrated_error: integral,
-                derivative,
-                shaped_velocity_mps,
-                commanded_velocity_mps,
+                derivative: stepped.state,
+                shaped_velocity_mps: shaping.shaped_velocity_mps,
+                commanded_velocity_mps: shaping.commanded_mps,
             },
-            accel_mps2: feedforward_mps2
-                .plus(velocity_error.times(gains.p))
-                .plus(integral.times(gains.i))
-                .plus(error_derivative.times(gains.d)),
+            accel_mps2: shaping.feedforward_mps2
+                + velocity_error * gains.p
+                + integral * gains.i
+                + stepped.derivative * gains.d,
         }
     }
 
     // A call with a velocity that is not finite asks for no acceleration. The derivative is forgotten,
     // and the integral and the commanded velocity stay.
+    #[tactic(auto, unfolding(crate::specs::Lateral::neutral))]
     fn neutral(self, shaping: Shaping) -> LateralControl
         ensures { result ≡ neutral self shaping }
     {
-        let integrated_error = self.integrated_error;
-        let shaped_velocity_mps = shaping.shaped_velocity_mps;
-        let commanded_velocity_mps = self.commanded_velocity_mps;
         LateralControl {
             controller: LateralController {
-                integrated_error,
                 derivative: DerivativeState::forget(),
-                shaped_velocity_mps,
-                commanded_velocity_mps,
+                shaped_velocity_mps: shaping.shaped_velocity_mps,
+                ..self
             },
             accel_mps2: Vec2::zeros(),
         }
@@ -176,16 +155,18 @@ impl LateralController {
 }
 
 // The cap on the speed: none, an infinity, for a NaN and for a speed that is not positive.
+#[tactic(auto, unfolding(crate::specs::Lateral::max_speed))]
 fn max_speed(max_speed_mps: f32) -> f32
     ensures { result ≡ max_speed max_speed_mps }
 {
     if max_speed_mps > 0.0 {
         return max_speed_mps;
     }
-    1.0 / 0.0
+    f32::INFINITY
 }
 
 // The velocity that closes the position error, with the target's own.
+#[tactic(auto, unfolding(crate::specs::Lateral::desired_velocity))]
 fn desired_velocity(
     config: LateralControllerConfig,
     target: LateralTarget,
@@ -193,17 +174,17 @@ fn desired_velocity(
 ) -> Vec2
     ensures { result ≡ desired_velocity config target estimate }
 {
-    let position = target.position_m;
-    let error_m = position.minus(estimate.position_m);
+    let error_m = target.position_m - estimate.position_m;
     let closing = closing_velocity(error_m, config.position_p, braking_decel_mps2(config));
-    closing.plus(target.velocity_mps)
+    closing + target.velocity_mps
 }
 
 // `demand_mps` approached at up to `max_accel_mps2` from the velocity that shaping has reached, or at
 // first from the measured one. Numbers that are not finite pass through and leave what is remembered;
 // with shaping off, nothing is remembered.
+#[tactic(auto, unfolding(crate::specs::Lateral::shape))]
 fn shape(
-    shaped_velocity_mps: ShapedVelocity,
+    shaped_velocity_mps: Option<Vec2>,
     max_accel_mps2: f32,
     dt: f32,
     demand_mps: Vec2,
@@ -212,18 +193,15 @@ fn shape(
     ensures { result ≡ shape shaped_velocity_mps max_accel_mps2 dt demand_mps measured_mps }
 {
     if max_accel_mps2 > 0.0 {
-        if math::all_finite(demand_mps) {
-            if math::all_finite(measured_mps) {
-                let from = shaped_from(shaped_velocity_mps, measured_mps);
-                let gap = demand_mps.minus(from);
-                let to = from.plus(math::cap_magnitude(gap, max_accel_mps2 * dt));
-                let change = to.minus(from);
-                return Shaping {
-                    shaped_velocity_mps: ShapedVelocity::At(to),
-                    commanded_mps: to,
-                    feedforward_mps2: change.over(dt),
-                };
-            }
+        if math::all_finite(demand_mps) && math::all_finite(measured_mps) {
+            let from = shaped_velocity_mps.unwrap_or(measured_mps);
+            let gap = demand_mps - from;
+            let to = from + math::cap_magnitude(gap, max_accel_mps2 * dt);
+            return Shaping {
+                shaped_velocity_mps: Some(to),
+                commanded_mps: to,
+                feedforward_mps2: (to - from) / dt,
+            };
         }
         return Shaping {
             shaped_velocity_mps,
@@ -232,22 +210,14 @@ fn shape(
         };
     }
     Shaping {
-        shaped_velocity_mps: ShapedVelocity::Nothing,
+        shaped_velocity_mps: None,
         commanded_mps: demand_mps,
         feedforward_mps2: Vec2::zeros(),
     }
 }
 
-fn shaped_from(shaped_velocity_mps: ShapedVelocity, measured_mps: Vec2) -> Vec2
-    ensures { result ≡ shaped_from shaped_velocity_mps measured_mps }
-{
-    let ShapedVelocity::At(velocity) = shaped_velocity_mps else {
-        return measured_mps;
-    };
-    velocity
-}
-
 // The deceleration that a leg brakes at; 0 for none. A NaN counts as none.
+#[tactic(auto, unfolding(crate::specs::Lateral::braking_decel))]
 fn braking_decel_mps2(config: LateralControllerConfig) -> f32
     ensures { result ≡ braking_decel config }
 {
@@ -262,28 +232,28 @@ fn braking_decel_mps2(config: LateralControllerConfig) -> f32
 
 // The velocity that closes `error_m`, on the braking curve at `decel_mps2`; in proportion to the error
 // with no deceleration, and where the distance is 0 or not finite.
+#[tactic(auto, unfolding(crate::specs::Lateral::closing_velocity))]
 fn closing_velocity(error_m: Vec2, position_p: f32, decel_mps2: f32) -> Vec2
     ensures { result ≡ closing_velocity error_m position_p decel_mps2 }
 {
     if decel_mps2 <= 0.0 {
-        return error_m.times(position_p);
+        return error_m * position_p;
     }
     let distance_m = error_m.norm();
-    if distance_m > 0.0 {
-        if floats::compare::is_finite(distance_m) {
-            let speed_mps = math::shaped_closing_speed(distance_m, position_p, decel_mps2);
-            return error_m.times(speed_mps / distance_m);
-        }
+    if distance_m > 0.0 && floats::compare::is_finite(distance_m) {
+        let speed_mps = math::shaped_closing_speed(distance_m, position_p, decel_mps2);
+        return error_m * (speed_mps / distance_m);
     }
-    error_m.times(position_p)
+    error_m * position_p
 }
 
 // The integral with `step` added; where the step's share of the output goes towards the limit, the
 // integral may turn, and does not get longer. Against a zero or a NaN it is never held.
+#[tactic(auto, unfolding(crate::specs::Lateral::hold_against_limit))]
 fn hold_against_limit(integral: Vec2, step: Vec2, i: f32, limit_mps2: Vec2) -> Vec2
     ensures { result ≡ hold_against_limit integral step i limit_mps2 }
 {
-    let next = integral.plus(step);
+    let next = integral + step;
     if i * step.dot(limit_mps2) > 0.0 {
         return math::cap_magnitude(next, integral.norm());
     }

@@ -1,5 +1,5 @@
 -- math.rs as far as guidance uses it, with the order of its float operations, each rounded once. Assumes nothing.
-use Rattle.std.specs.Prelude.{Bool, cond, ◌&&◌, ◌||◌, Float}
+use Rattle.std.specs.Prelude.{Bool, cond, ◌&&◌, ◌||◌, Float, None, Option, Some}
 use Rattle.std.specs.Float.{binary32}
 use Rattle.std.specs.Float.Ieee.{is_nan, neg, lt, le, eq, rem}
 use Rattle.std.specs.Float.Ieee.Scale.{finite}
@@ -9,8 +9,6 @@ use Rattle.floats.specs.Sqrt.{sqrt}
 use Rattle.math.specs.declared.vectors.Vec2.{Vec2}
 use Rattle.math.specs.declared.vectors.Vec3.{Vec3}
 use Rattle.math.specs.declared.vectors.Quaternion.{Quaternion}
-use Rattle.math.specs.declared.SinkGuard.{SinkGuard}
-use Rattle.math.specs.declared.SinkGuard.TheVariants.{Raised, Off}
 use Rattle.math.specs.Vectors.{zeros, times, norm}
 
 abbrev pub zero : Float
@@ -97,10 +95,10 @@ unfoldable pub saturate_throttle : Float → Float
 saturate_throttle value = cond (is_nan value) zero (clamp value zero one)
 
 -- off unless sinking past a positive limit
-unfoldable pub guard_sink : Float → Float → Float → Float → SinkGuard
+unfoldable pub guard_sink : Float → Float → Float → Float → Option Float
 guard_sink thrust climb limit gain =
     let excess = neg limit ⊖ climb in
-    cond (lt zero limit && lt zero excess) (Raised (saturate_throttle (thrust ⊕ gain ⊗ excess))) Off
+    cond (lt zero limit && lt zero excess) (Some (saturate_throttle (thrust ⊕ gain ⊗ excess))) None
 
 -- ---- closing speed
 

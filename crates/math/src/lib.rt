@@ -9,21 +9,15 @@ ghost use Rattle.std.specs.Float.Ieee.{lt};
 ghost use Rattle.math.specs.Math.{zero, cap_magnitude, past, saturate_unit, saturate_symmetric, clamp_symmetric, limit_or_zero, clamp_symmetric_each, all_finite, neu_to_ned, tilt_boost, saturate_throttle, guard_sink, shaped_closing_speed, braked_speed, wrap_angle, rem_euclid};
 ghost use Rattle.math.specs.Inner.{within, exceeds, limited_closing_speed, has_plain_square, RootWithin, RootBeyond};
 
+pub use std::f32::consts::{FRAC_PI_2, PI, TAU};
 use vectors::{Quaternion, Vec2, Vec3};
-
-// π and 2π.
-pub const PI: f32 = 3.1415927;
-
-pub const TAU: f32 = 6.2831855;
-
-// π/2.
-pub const FRAC_PI_2: f32 = 1.5707964;
 
 // Standard gravity, in m/s².
 pub const GRAVITY: f32 = 9.80665;
 
 // v scaled down, keeping its direction, so that its length is at most `max`. A vector of no finite
 // length has no direction and becomes zero.
+#[tactic(auto, using(crate::proofs::Laws::Length::square_not_below), unfolding(crate::specs::Math::cap_magnitude))]
 pub fn cap_magnitude(v: Vec2, max: f32) -> Vec2
     ensures { result ≡ cap_magnitude v max }
 {
@@ -32,16 +26,17 @@ pub fn cap_magnitude(v: Vec2, max: f32) -> Vec2
         return v;
     }
     let length = floats::sqrt::sqrtf(square);
-    if floats::compare::is_finite(length) {
-        if max < length {
-            return v.times(max / length);
-        }
-        return v;
+    if !floats::compare::is_finite(length) {
+        return Vec2::zeros();
     }
-    Vec2::zeros()
+    if max < length {
+        return v * (max / length);
+    }
+    v
 }
 
 // Whether v is at most `limit` long. A NaN on either side is not.
+#[tactic(auto, using(crate::proofs::Laws::Length::square_not_below), unfolding(crate::specs::Inner::within))]
 pub fn within(v: Vec2, limit: f32) -> bool
     ensures { result ≡ within v limit }
 {
@@ -55,7 +50,8 @@ pub fn within(v: Vec2, limit: f32) -> bool
     floats::sqrt::sqrtf(square) <= limit
 }
 
-// Whether v is longer than `limit`. A NaN on either side is not.
+// Whether v is longer than `limit`. A NaN on either side is not, so this is not the opposite of `within`.
+#[tactic(auto, using(crate::proofs::Laws::Length::square_not_below), unfolding(crate::specs::Inner::exceeds))]
 pub fn exceeds(v: Vec2, limit: f32) -> bool
     ensures { result ≡ exceeds v limit }
 {
@@ -70,6 +66,7 @@ pub fn exceeds(v: Vec2, limit: f32) -> bool
 }
 
 // The part of v past a length of `band`: zero where v is not longer.
+#[tactic(auto, using(crate::proofs::Laws::Length::square_not_below), unfolding(crate::specs::Math::past))]
 pub fn past(v: Vec2, band: f32) -> Vec2
     ensures { result ≡ past v band }
 {
@@ -79,7 +76,7 @@ pub fn past(v: Vec2, band: f32) -> Vec2
     }
     let length = floats::sqrt::sqrtf(square);
     if length > band {
-        return v.times((length - band) / length);
+        return v * ((length - band) / length);
     }
     Vec2::zeros()
 }
@@ -89,10 +86,7 @@ fn surely_within(square: f32, limit: f32) -> bool
     requires { lt square zero ≡ false }
     ensures { result ≡ true → RootWithin square limit }
 {
-    if has_plain_square(limit) {
-        return square <= limit * limit;
-    }
-    false
+    has_plain_square(limit) && square <= limit * limit
 }
 
 // Whether the square of twice the limit tells without a root that the root of `square` is more than
@@ -100,21 +94,16 @@ fn surely_within(square: f32, limit: f32) -> bool
 fn surely_beyond(square: f32, limit: f32) -> bool
     ensures { result ≡ true → RootBeyond square limit }
 {
-    if has_plain_square(limit) {
-        let double = 2.0 * limit;
-        return double * double <= square;
-    }
-    false
+    let double = 2.0 * limit;
+    has_plain_square(limit) && double * double <= square
 }
 
 // Whether the limit is so far from underflow and overflow that the root of its square is the limit.
+#[tactic(auto, unfolding(crate::specs::Inner::has_plain_square))]
 pub fn has_plain_square(limit: f32) -> bool
     ensures { result ≡ has_plain_square limit }
 {
-    if 0.0000001 <= limit {
-        return limit <= 10000000.0;
-    }
-    false
+    0.0000001 <= limit && limit <= 10000000.0
 }
 
 // A command saturated to [-1, 1]; a NaN becomes 0.
@@ -126,10 +115,11 @@ pub fn saturate_unit(value: f32) -> f32
 
 // `value` saturated to [-limit, limit]; a NaN becomes 0, and a limit that is negative or a NaN counts
 // as 0.
+#[tactic(auto, unfolding(crate::specs::Math::saturate_symmetric))]
 pub fn saturate_symmetric(value: f32, limit: f32) -> f32
     ensures { result ≡ saturate_symmetric value limit }
 {
-    if value != value {
+    if value.is_nan() {
         return 0.0;
     }
     clamp_symmetric(value, limit)
@@ -137,6 +127,7 @@ pub fn saturate_symmetric(value: f32, limit: f32) -> f32
 
 // `value` clamped to [-limit, limit]; a NaN stays one, and a limit that is negative or a NaN counts
 // as 0.
+#[tactic(auto, unfolding(crate::specs::Math::clamp_symmetric))]
 pub fn clamp_symmetric(value: f32, limit: f32) -> f32
     ensures { result ≡ clamp_symmetric value limit }
 {
@@ -145,16 +136,15 @@ pub fn clamp_symmetric(value: f32, limit: f32) -> f32
 }
 
 // A limit as given where it is non-negative, else 0, for a NaN too.
+#[tactic(auto, unfolding(crate::specs::Math::limit_or_zero))]
 pub fn limit_or_zero(limit: f32) -> f32
     ensures { result ≡ limit_or_zero limit }
 {
-    if limit >= 0.0 {
-        return limit;
-    }
-    0.0
+    if limit >= 0.0 { limit } else { 0.0 }
 }
 
 // `clamp_symmetric` of each component.
+#[tactic(auto, unfolding(crate::specs::Math::clamp_symmetric_each))]
 pub fn clamp_symmetric_each(value: Vec2, limit: f32) -> Vec2
     ensures { result ≡ clamp_symmetric_each value limit }
 {
@@ -165,13 +155,11 @@ pub fn clamp_symmetric_each(value: Vec2, limit: f32) -> Vec2
 }
 
 // Whether every component is finite.
+#[tactic(auto, unfolding(crate::specs::Math::all_finite))]
 pub fn all_finite(value: Vec2) -> bool
     ensures { result ≡ all_finite value }
 {
-    if floats::compare::is_finite(value.x) {
-        return floats::compare::is_finite(value.y);
-    }
-    false
+    floats::compare::is_finite(value.x) && floats::compare::is_finite(value.y)
 }
 
 // From the state's frame, north, east and up, to north, east and down.
@@ -187,83 +175,69 @@ pub fn neu_to_ned(v: Vec3) -> Vec3
 
 // The factor that keeps a thrust's vertical part while tilted: 1 / cos(tilt), at most 2, falling to
 // 0 as the tilt passes 84 degrees. An attitude that is not finite counts as level.
+#[tactic(auto, unfolding(crate::specs::Math::tilt_boost, crate::specs::Math::tilt_cosine))]
 pub fn tilt_boost(attitude: Quaternion) -> f32
     ensures { result ≡ tilt_boost attitude }
 {
     let x = attitude.i;
     let y = attitude.j;
     let cosine = 1.0 - 2.0 * (x * x + y * y);
-    if floats::compare::is_finite(cosine) {
-        let upright = floats::minmax::clamp(cosine / 0.1, 0.0, 1.0);
-        return upright / floats::minmax::max(cosine, 0.5);
+    if !floats::compare::is_finite(cosine) {
+        return 1.0;
     }
-    1.0
+    let upright = floats::minmax::clamp(cosine / 0.1, 0.0, 1.0);
+    upright / floats::minmax::max(cosine, 0.5)
 }
 
 // A throttle saturated to [0, 1]; a NaN becomes 0.
+#[tactic(auto, unfolding(crate::specs::Math::saturate_throttle))]
 pub fn saturate_throttle(value: f32) -> f32
     ensures { result ≡ saturate_throttle value }
 {
-    if value != value {
+    if value.is_nan() {
         return 0.0;
     }
     floats::minmax::clamp(value, 0.0, 1.0)
 }
 
-// What the sink guard does: raise the thrust, or nothing.
-#[derive(Clone, Copy)]
-pub enum SinkGuard {
-    Raised(f32),
-    Off,
-}
-
-// `thrust` raised by `gain` for each m/s of sink past `limit_mps`, saturated to [0, 1]; off unless
-// sinking past a positive limit.
-pub fn guard_sink(thrust: f32, climb_mps: f32, limit_mps: f32, gain: f32) -> SinkGuard
+// The sink guard: `thrust` raised by `gain` for each m/s of sink past `limit_mps`, saturated to [0, 1];
+// none unless sinking past a positive limit.
+#[tactic(auto, unfolding(crate::specs::Math::guard_sink))]
+pub fn guard_sink(thrust: f32, climb_mps: f32, limit_mps: f32, gain: f32) -> Option<f32>
     ensures { result ≡ guard_sink thrust climb_mps limit_mps gain }
 {
     let excess_mps = -limit_mps - climb_mps;
-    if limit_mps > 0.0 {
-        if excess_mps > 0.0 {
-            return SinkGuard::Raised(saturate_throttle(thrust + gain * excess_mps));
-        }
+    if limit_mps > 0.0 && excess_mps > 0.0 {
+        return Some(saturate_throttle(thrust + gain * excess_mps));
     }
-    SinkGuard::Off
+    None
 }
 
 // The speed toward a target `distance_m` away that a deceleration of `accel_mps2` can bring to zero
-// there: p * distance near it, a square root beyond. A distance that is not positive gives 0.
+// there; the three numbers belong to three things, so they are no struct. It is p * distance near it, a
+// square root beyond. A distance that is not positive gives 0.
+#[tactic(auto, unfolding(crate::specs::Math::shaped_closing_speed))]
 pub fn shaped_closing_speed(distance_m: f32, p: f32, accel_mps2: f32) -> f32
     ensures { result ≡ shaped_closing_speed distance_m p accel_mps2 }
 {
-    if distance_m != distance_m {
-        return 0.0;
-    }
-    if distance_m <= 0.0 {
+    if distance_m.is_nan() || distance_m <= 0.0 {
         return 0.0;
     }
     // A NaN, or a deceleration that is not positive: none.
-    if accel_mps2 > 0.0 {
-        return braked_speed(distance_m, p, accel_mps2);
-    }
-    braked_speed(distance_m, p, 0.0)
+    let accel_mps2 = if accel_mps2 > 0.0 { accel_mps2 } else { 0.0 };
+    braked_speed(distance_m, p, accel_mps2)
 }
 
 // The same for a positive distance and a deceleration that is not negative.
+#[tactic(auto, unfolding(crate::specs::Math::braked_speed))]
 fn braked_speed(distance_m: f32, p: f32, accel_mps2: f32) -> f32
     ensures { result ≡ braked_speed distance_m p accel_mps2 }
 {
-    if p != p {
-        return floats::sqrt::sqrtf(2.0 * accel_mps2 * distance_m);
-    }
-    if p <= 0.0 {
+    if p.is_nan() || p <= 0.0 {
         return floats::sqrt::sqrtf(2.0 * accel_mps2 * distance_m);
     }
     let linear_m = accel_mps2 / (p * p);
-    if accel_mps2 == 0.0 {
-        return p * distance_m;
-    }
-    if distance_m <= linear_m {
+    if accel_mps2 == 0.0 || distance_m <= linear_m {
         return p * distance_m;
     }
     floats::sqrt::sqrtf(2.0 * accel_mps2 * (distance_m - linear_m / 2.0))
@@ -271,6 +245,7 @@ fn braked_speed(distance_m: f32, p: f32, accel_mps2: f32) -> f32
 
 // `shaped_closing_speed`, but at most `limit_mps`. Where the squares tell that the limit is reached,
 // no root is taken.
+#[tactic(auto, unfolding(crate::specs::Inner::limited_closing_speed))]
 pub fn limited_closing_speed(distance_m: f32, p: f32, accel_mps2: f32, limit_mps: f32) -> f32
     ensures { result ≡ limited_closing_speed distance_m p accel_mps2 limit_mps }
 {
@@ -284,23 +259,17 @@ pub fn limited_closing_speed(distance_m: f32, p: f32, accel_mps2: f32, limit_mps
 fn surely_reaches(distance_m: f32, p: f32, accel_mps2: f32, limit_mps: f32) -> bool
     ensures { result ≡ true → limited_closing_speed distance_m p accel_mps2 limit_mps ≡ limit_mps }
 {
-    if distance_m > 0.0 {
-        if p > 0.0 {
-            if accel_mps2 > 0.0 {
-                let linear_m = accel_mps2 / (p * p);
-                if linear_m < distance_m {
-                    if has_plain_square(limit_mps) {
-                        return limit_mps * limit_mps
-                            <= 2.0 * accel_mps2 * (distance_m - linear_m / 2.0);
-                    }
-                }
-            }
+    if distance_m > 0.0 && p > 0.0 && accel_mps2 > 0.0 {
+        let linear_m = accel_mps2 / (p * p);
+        if linear_m < distance_m && has_plain_square(limit_mps) {
+            return limit_mps * limit_mps <= 2.0 * accel_mps2 * (distance_m - linear_m / 2.0);
         }
     }
     false
 }
 
 // An angle in radians wrapped to [-π, π); one that is not finite gives a NaN.
+#[tactic(auto, unfolding(crate::specs::Math::wrap_angle))]
 pub fn wrap_angle(angle: f32) -> f32
     ensures { result ≡ wrap_angle angle }
 {

@@ -3,7 +3,9 @@
 ghost use Rattle.std.specs.Prelude.{◌≡◌};
 ghost use Rattle.math.specs.Vectors.{zeros, plus, minus, times, over, dot, norm};
 
-#[derive(Clone, Copy)]
+use std::ops::{Add, Div, Mul, Sub};
+
+#[derive(Clone, Copy, PartialEq, Default)]
 pub struct Vec2 {
     pub x: f32,
     pub y: f32,
@@ -32,42 +34,6 @@ impl Vec2 {
         Vec2 { x: 0.0, y: 0.0 }
     }
 
-    pub fn plus(self, other: Vec2) -> Vec2
-        ensures { result ≡ plus self other }
-    {
-        Vec2 {
-            x: self.x + other.x,
-            y: self.y + other.y,
-        }
-    }
-
-    pub fn minus(self, other: Vec2) -> Vec2
-        ensures { result ≡ minus self other }
-    {
-        Vec2 {
-            x: self.x - other.x,
-            y: self.y - other.y,
-        }
-    }
-
-    pub fn times(self, factor: f32) -> Vec2
-        ensures { result ≡ times self factor }
-    {
-        Vec2 {
-            x: self.x * factor,
-            y: self.y * factor,
-        }
-    }
-
-    pub fn over(self, divisor: f32) -> Vec2
-        ensures { result ≡ over self divisor }
-    {
-        Vec2 {
-            x: self.x / divisor,
-            y: self.y / divisor,
-        }
-    }
-
     pub fn dot(self, other: Vec2) -> f32
         ensures { result ≡ dot self other }
     {
@@ -79,5 +45,57 @@ impl Vec2 {
         ensures { result ≡ norm self }
     {
         floats::sqrt::sqrtf(self.dot(self))
+    }
+}
+
+impl Add for Vec2 {
+    type Output = Vec2;
+
+    ghost add_gives = { λ v w r. r ≡ plus v w };
+
+    fn add(self, other: Vec2) -> Vec2 {
+        Vec2 {
+            x: self.x + other.x,
+            y: self.y + other.y,
+        }
+    }
+}
+
+impl Sub for Vec2 {
+    type Output = Vec2;
+
+    ghost sub_gives = { λ v w r. r ≡ minus v w };
+
+    fn sub(self, other: Vec2) -> Vec2 {
+        Vec2 {
+            x: self.x - other.x,
+            y: self.y - other.y,
+        }
+    }
+}
+
+impl Mul<f32> for Vec2 {
+    type Output = Vec2;
+
+    ghost mul_gives = { λ v w r. r ≡ times v w };
+
+    fn mul(self, factor: f32) -> Vec2 {
+        Vec2 {
+            x: self.x * factor,
+            y: self.y * factor,
+        }
+    }
+}
+
+impl Div<f32> for Vec2 {
+    type Output = Vec2;
+
+    ghost div_gives = { λ v w r. r ≡ over v w };
+
+    fn div(self, divisor: f32) -> Vec2 {
+        Vec2 {
+            x: self.x / divisor,
+            y: self.y / divisor,
+        }
     }
 }

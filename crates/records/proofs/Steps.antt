@@ -1,69 +1,76 @@
--- The record operation by its kind: what it comes to where a body is cut short and where it is whole, and that a verdict
--- that was written is what the definition answers. Assumes nothing.
-use Prim.Native.Nat.{ℕ, suc, ◌-◌, ◌≤◌, ◌<◌}
-use mathlib.Core.Path.{◌≡◌, refl, ◌∙◌}
-use mathlib.Core.Bool.{false}
-use mathlib.Core.List.{List, ◌++◌}
+-- The record operation by what the port's functions give: a record's answer, written, is what the definition answers. Assumes nothing.
+use Rattle.std.specs.Prelude.{None, Option, Some, Result, Ok, Err}
+use Rattle.std.specs.Result.{MatchResult}
+use Prim.Native.Nat.{ℕ, ◌+◌, ◌-◌, ◌≤◌, ◌<◌}
+use mathlib.Core.Path.{◌≡◌, refl, sym}
+use mathlib.Core.Bool.{false, true≢false}
+use mathlib.Core.List.{List, ◌∷◌, ◌++◌}
 use native.Mathlib.Omega.{arith}
-use borrow.Author.Tests.{lt-ltb, le-ltb, eq-eqb, ne_eqb}
-use lib.ListN.{length, take, drop, length-drop}
+use borrow.Author.Tests.{ne_eqb, lt-ltb}
+use lib.ListN.{length, take, drop, get_or}
+use lib.Seq.{get_or-drop, drop-drop}
 use Rattle.copter.specs.declared.memory.CopterGuidance.{CopterGuidance}
-use Rattle.records.specs.declared.craft.Guidance.TheVariants.{Configured}
-use Rattle.records.specs.declared.craft.Craft.{Craft}
-use Rattle.records.specs.declared.answer.Refusal.TheVariants as refusals
-use Rattle.records.specs.declared.answer.Answer.{Answer}
 use Rattle.records.specs.declared.kinds.InFlight.{InFlight}
+use Rattle.records.specs.declared.kinds.UnknownKind.{UnknownKind}
 use Rattle.records.specs.declared.kinds.Kind.{Kind}
 use Rattle.records.specs.declared.kinds.Kind.TheVariants as kinds
-use Rattle.records.specs.Answer.{answer_bytes}
-use Rattle.records.specs.Layout.{byte_at}
-use Rattle.records.specs.Kinds.{kind_of, body_length}
-use Rattle.records.specs.Step.{Judged, serve, untaken, with_body, with_kind, judged, craft_after, answer_of, answer_room, answered, step}
-use Rattle.records.specs.Inner.{judged_as, serves}
-use Rattle.records.proofs.Laws.Counts.{step_judged, unknown, known_kind}
+use Rattle.records.specs.Kinds.{kind_of}
+use Rattle.records.specs.declared.craft.Craft.{Craft}
+use Rattle.records.specs.declared.turn.Turned.{Turned}
+use Rattle.records.specs.declared.answer.Refusal.TheVariants as refusals
+use Rattle.records.specs.declared.answer.Answer.TheVariants as answers
+use Rattle.records.specs.Answer.{refusal_bytes, answer_bytes}
+use Rattle.records.specs.Step.{configured, with_body, with_kind, judged, craft_after, answer_of, answer_room, answered, step, reported}
+use Rattle.records.specs.Inner.{came, serves}
+use Rattle.records.proofs.Parts.{lent}
+use Rattle.records.proofs.Laws.Counts.{step_judged}
 
--- a verdict with its answer written
-pub written_as_judged : (craft : Craft) (j : Judged) (buffer : List ℕ) {after : Craft} {answer : Answer} {written : ℕ} {out : List ℕ}
-    → after ≡ craft_after craft j.verdict → answer ≡ answer_of j.verdict
-    → written ≡ length (answer_bytes answer) → out ≡ answer_bytes answer ++ drop written buffer
-    → record { craft = after; answer = answer; taken = j.taken; written = written; buffer = out } ≡ answered craft j buffer
+-- a record of a known kind, by the place of its kind
+pub judged_at : (guidance : Option CopterGuidance) (bytes : List ℕ) (n : ℕ) (kind : Kind) → 1 ≤ length (drop n bytes)
+    → kind_of (get_or bytes n 0) ≡ Some kind
+    → judged guidance (take (length bytes - n) (drop n bytes)) ≡ with_body (Some kind) guidance (take (length bytes - (n + 1)) (drop (n + 1) bytes))
+unfolding judged with_kind
+judged_at guidance bytes n kind some is =
+    let here : length (drop n bytes) ≡ 0 → ⊥ = λ none. omega arith in
+    let there : n + 0 ≡ n = omega arith in
+    rw (lent bytes n, lent bytes (n + 1), ne_eqb (length (drop n bytes)) 0 here, get_or-drop, there, is, drop-drop)
+
+-- a record of a known kind, from its first byte
+pub judged_first : (guidance : Option CopterGuidance) (bytes rest : List ℕ) (byte : ℕ) (kind : Kind) → bytes ≡ byte ∷ rest → kind_of byte ≡ Some kind
+    → judged guidance bytes ≡ with_body (Some kind) guidance rest
+unfolding judged with_kind
+judged_first guidance bytes rest byte kind e is =
+    let some : length (byte ∷ rest) ≡ 0 → ⊥ = λ none. omega arith in rw (e, is, ne_eqb (length (byte ∷ rest)) 0 some)
+
+-- a byte that is no kind
+pub no_kind : (r : Result Kind UnknownKind) (kind : Option Kind) → MatchResult r (λ k. kind ≡ Some k) (λ e. kind ≡ None) → ((k : Kind) → r ≡ Ok k → ⊥)
+    → kind ≡ None
+no_kind (Ok k) kind given other = absurd (other k refl)
+no_kind (Err e) kind given other = given
+
+-- the craft whose guidance is known
+pub held : (craft : Craft) (g : CopterGuidance) → craft.guidance ≡ Some g → craft ≡ configured g
+held craft g e i = record { guidance = e i }
+
+-- what a record comes to, with its answer written
+pub written_step : (craft : Craft) (bytes buffer : List ℕ) (t : Turned Craft) {written : ℕ} {out : List ℕ} → answer_room ≤ length buffer
+    → t ≡ came craft (judged craft.guidance bytes) → written ≡ length (answer_bytes t.answer) → out ≡ answer_bytes t.answer ++ drop written buffer
+    → record { craft = t.kept; answer = t.answer; taken = t.taken; written = written; buffer = out } ≡ step craft bytes buffer
 unfolding answered
-written_as_judged craft j buffer to said long put = rw (put, long, said, to)
+written_step craft bytes buffer t room came_to long put = rw (put, long, came_to) (sym (step_judged craft bytes buffer room))
 
-module _ (craft : Craft) (bytes buffer : List ℕ) (room : answer_room ≤ length buffer) where
-  pub no_kind : length bytes ≡ 0 → step craft bytes buffer ≡ answered craft (untaken refusals.Short) buffer
-  unfolding judged
-  no_kind none = step_judged craft bytes buffer room ∙ rw (eq-eqb (length bytes) 0 none)
+-- nothing is done where there is no room
+pub no_room : (craft : Craft) (bytes buffer : List ℕ) → length buffer < answer_room
+    → reported (record { craft = craft; answer = answers.Refused refusals.NoRoom; taken = 0; written = 0 }) buffer ≡ step craft bytes buffer
+unfolding step answered craft_after answer_of answer_bytes refusal_bytes
+no_room craft bytes buffer small = rw (lt-ltb (length buffer) answer_room small)
 
-  module _ (some : 1 ≤ length bytes) where
-    by_kind : step craft bytes buffer ≡ answered craft (with_kind (kind_of (byte_at bytes 0)) craft.guidance (drop 1 bytes)) buffer
-    unfolding judged
-    by_kind =
-        let here : length bytes ≡ 0 → ⊥ = λ none. omega arith in
-        step_judged craft bytes buffer room ∙ rw (ne_eqb (length bytes) 0 here)
-
-    pub of_unknown_kind : kind_of (byte_at bytes 0) ≡ kinds.Unknown → step craft bytes buffer ≡ answered craft (untaken refusals.Kind) buffer
-    unfolding with_kind
-    of_unknown_kind is = by_kind ∙ rw is
-
-    module _ (kind : Kind) (known : unknown kind ≡ false) (is : kind_of (byte_at bytes 0) ≡ kind) where
-      with_its_body : step craft bytes buffer ≡ answered craft (with_body kind craft.guidance (drop 1 bytes)) buffer
-      with_its_body = by_kind ∙ rw (is, known_kind kind craft.guidance (drop 1 bytes) known)
-
-      pub cut : length bytes - 1 < body_length kind → step craft bytes buffer ≡ answered craft (untaken refusals.Short) buffer
-      cut short =
-          let behind : length (drop 1 bytes) < body_length kind = simp length-drop short in
-          rw (with_its_body, lt-ltb (length (drop 1 bytes)) (body_length kind) behind)
-
-      -- the part that is read and the bytes taken, as the code counts them
-      pub whole : (part end : ℕ) → body_length kind ≤ length bytes - 1 → part ≡ body_length kind → end ≡ suc (body_length kind)
-          → step craft bytes buffer ≡ answered craft (judged_as (serve kind craft.guidance (take part (drop 1 bytes))) end) buffer
-      whole part end enough a b =
-          let behind : body_length kind ≤ length (drop 1 bytes) = simp length-drop enough in
-          rw (a, b, with_its_body, le-ltb (length (drop 1 bytes)) (body_length kind) behind)
+-- a kind in flight that `turn` does not serve finds no craft
+pub not_configured : (guidance : Option CopterGuidance) (kind : InFlight) → serves guidance (Some (kinds.InFlight kind)) ≡ false → guidance ≡ None
+not_configured None _ other = refl
+not_configured (Some g) _ other = absurd (true≢false other)
 
 -- a `let .. else` on a kind that is not one in flight
-pub unserved : (g : CopterGuidance) (kind : Kind) → ((k : InFlight) → kind ≡ kinds.InFlight k → ⊥) → serves (Configured g) kind ≡ false
+pub unserved : (g : CopterGuidance) (kind : Kind) → ((k : InFlight) → kind ≡ kinds.InFlight k → ⊥) → serves (Some g) (Some kind) ≡ false
 unserved g kinds.Configure other = refl
 unserved g (kinds.InFlight k) other = absurd (other k refl)
-unserved g kinds.Unknown other = refl

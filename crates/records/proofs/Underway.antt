@@ -8,10 +8,13 @@ use native.Mathlib.Omega.{arith}
 use native.Mathlib.Nat.{le_refl}
 use lib.ListN.{length, take, drop, length-drop, drop_of_length-le}
 use Rattle.records.specs.declared.craft.Craft.{Craft}
-use Rattle.records.specs.Step.{Outcome, step}
+use Rattle.records.specs.declared.turn.Turned.{Turned}
+use Rattle.records.specs.Answer.{answer_bytes}
+use Rattle.records.specs.Step.{judged, answer_room, step}
 use Rattle.records.specs.Flight.{Flight, ends_flight, waits, onward}
-use Rattle.records.specs.Inner.{waiting, serving, next, rest, Stands, Served}
+use Rattle.records.specs.Inner.{came, waiting, serving, next, rest, Stands, Served}
 use Rattle.records.proofs.Parts.{lent}
+use Rattle.records.proofs.Steps.{written_step}
 use Rattle.records.proofs.Laws.Flight.{next_stands, rest_next}
 
 -- ---- further on
@@ -53,15 +56,17 @@ module _ (bytes out : List ℕ) (craft : Craft) (taken written : ℕ) where
       → b ≡ waiting last bytes (standing craft taken written false out)
   waits_there last b e = e ∙ rw (lent bytes taken, length-drop written out)
 
-  -- after a record they are the flight one record further
-  pub one_further : (outcome : Outcome)
-      → outcome ≡ step craft (take (length bytes - taken) (drop taken bytes)) (take (length out - written) (drop written out))
-      → standing outcome.craft (taken + outcome.taken) (written + outcome.written) (ends_flight outcome.answer)
-      (take written out ++ (outcome.buffer ++ drop (length out - written) (drop written out)))
+  -- after a record, whose answer is written, they are the flight one record further
+  pub one_further : (t : Turned Craft) → t ≡ came craft (judged craft.guidance (take (length bytes - taken) (drop taken bytes)))
+      → answer_room ≤ length (drop written out) → (put : ℕ) (after : List ℕ) → put ≡ length (answer_bytes t.answer)
+      → after ≡ answer_bytes t.answer ++ drop put (take (length out - written) (drop written out))
+      → standing t.kept (taken + t.taken) (written + put) (ends_flight t.answer) (take written out ++ (after ++ drop (length out - written) (drop written out)))
       ≡ next bytes (standing craft taken written false out)
   unfolding onward
-  one_further outcome e =
+  one_further t came_to room put after long is =
+      let front : answer_room ≤ length (take (length out - written) (drop written out)) = rw (lent out written) room in
+      let stepped = written_step craft (take (length bytes - taken) (drop taken bytes)) (take (length out - written) (drop written out)) t front came_to long is in
       let whole : step craft (take (length bytes - taken) (drop taken bytes)) (take (length out - written) (drop written out)) ≡ step craft
       (drop taken bytes) (drop written out) =
       rw (lent bytes taken, lent out written) in
-      rw (none_behind out written, append-nil outcome.buffer) (ap (onward (standing craft taken written false out)) (e ∙ whole))
+      rw (none_behind out written, append-nil after) (ap (onward (standing craft taken written false out)) (stepped ∙ whole))

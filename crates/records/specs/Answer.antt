@@ -1,6 +1,5 @@
 -- Document 01's number of each answer and of each refusal, and the bytes of an answer. Assumes nothing.
-use Rattle.std.specs.Prelude.{ℕ, ◌+◌, Bool, true, false, cond, List, [], ◌∷◌, ◌++◌, eqb, Float}
-use Rattle.std.proofs.Math.Option.{Option, none, some}
+use Rattle.std.specs.Prelude.{ℕ, ◌+◌, Bool, true, false, cond, List, [], ◌∷◌, ◌++◌, eqb, Float, None, Option, Some}
 use Rattle.copter.specs.declared.commands.Flags.{Flags}
 use Rattle.records.specs.declared.answer.Refusal.{Refusal}
 use Rattle.records.specs.declared.answer.Refusal.TheVariants.{Field, TimeStep, Heading, Rate, Kind, Short, NotConfigured, Mark, NoRoom}
@@ -9,8 +8,8 @@ use Rattle.records.specs.declared.answer.Answer.TheVariants.{Attitude, BodyRate,
 use Rattle.records.specs.Layout.{float_bytes}
 
 abbrev pub is_none : Option Refusal → Bool
-is_none none = true
-is_none (some refusal) = false
+is_none None = true
+is_none (Some refusal) = false
 
 abbrev pub number : Refusal → ℕ
 number (Field field) = 1
@@ -37,12 +36,12 @@ field_of NoRoom = 0
 
 -- the refusal that an answer is, or none
 abbrev pub refusal_of : Answer → Option Refusal
-refusal_of (Refused refusal) = some refusal
-refusal_of (Attitude setpoint flags) = none
-refusal_of (BodyRate setpoint flags) = none
-refusal_of Done = none
-refusal_of NoWind = none
-refusal_of (Wind estimate) = none
+refusal_of (Refused refusal) = Some refusal
+refusal_of (Attitude setpoint flags) = None
+refusal_of (BodyRate setpoint flags) = None
+refusal_of Done = None
+refusal_of NoWind = None
+refusal_of (Wind estimate) = None
 
 -- no refusal
 abbrev pub accepted : Answer → Bool

@@ -1,6 +1,6 @@
 -- "What each call does", of every list of records, as the type `Facts`: the craft that a list leads to from an unconfigured one is as `EachCraft` says, and each accepted call
 -- goes as `EachCall` says (copter/specs/Calls.antt, a field for each sentence of document 01). proofs/Laws/Facts.antt proves it. Assumes nothing.
-use Rattle.std.specs.Prelude.{◌≡◌, List, Float}
+use Rattle.std.specs.Prelude.{◌≡◌, List, Float, Some, Ok}
 use Rattle.wind.specs.declared.state.VehicleState.{VehicleState}
 use Rattle.copter.specs.Calls.{EachCraft, EachCall}
 use Rattle.copter.specs.Config.{Valid}
@@ -8,14 +8,11 @@ use Rattle.copter.specs.Guide.{new_craft, guide_call, prime, wind_reading}
 use Rattle.copter.specs.declared.commands.Command.{Command}
 use Rattle.copter.specs.declared.config.CopterGuidanceConfig.{CopterGuidanceConfig}
 use Rattle.copter.specs.declared.memory.CopterGuidance.{CopterGuidance}
-use Rattle.records.specs.declared.craft.Guidance.TheVariants.{Configured}
 use Rattle.records.specs.declared.answer.Answer.TheVariants as answers
 use Rattle.records.specs.declared.kinds.InFlight.{InFlight}
 use Rattle.records.specs.declared.kinds.Kind.TheVariants as kinds
-use Rattle.records.specs.declared.read.Configuration.TheVariants as configurations
 use Rattle.records.specs.declared.read.Input.{Input}
 use Rattle.records.specs.declared.read.Input.TheVariants as inputs
-use Rattle.records.specs.declared.read.Read.TheVariants as reading
 use Rattle.records.specs.Kinds.{kind_of}
 use Rattle.records.specs.Read.{configuration, read}
 use Rattle.records.specs.Step.{configured, setpoint_answer, wind_answer}
@@ -25,15 +22,15 @@ use Rattle.records.specs.Feed.{Entry, outcome, machine, kind_byte, body_of, Acce
 
 -- what an accepted record of a kind in flight finds, and what its body says
 pub record Told (first : List Entry) (entry : Entry) (before : CopterGuidance) (input : Input) : Type 0 where
-  pub holds : (machine first).guidance ≡ Configured before
+  pub holds : (machine first).guidance ≡ Some before
   pub kind : InFlight
-  pub of_kind : kind_of (kind_byte entry) ≡ kinds.InFlight kind
-  pub says : read kind (body_of entry) ≡ reading.Input input
+  pub of_kind : kind_of (kind_byte entry) ≡ Some (kinds.InFlight kind)
+  pub says : read kind (body_of entry) ≡ Ok input
 
 -- what an accepted configure says
 pub record Configuring (entry : Entry) (config : CopterGuidanceConfig) : Type 0 where
-  pub of_kind : kind_of (kind_byte entry) ≡ kinds.Configure
-  pub says : configuration (body_of entry) ≡ configurations.Of config
+  pub of_kind : kind_of (kind_byte entry) ≡ Some kinds.Configure
+  pub says : configuration (body_of entry) ≡ Ok config
 
 -- An accepted record is a configure or tells a configured craft something.
 pub data AcceptedAs (first : List Entry) (entry : Entry) : Type 0 where
@@ -60,4 +57,4 @@ pub record Facts : Type 0 where
       × ((outcome (machine first) entry).answer ≡ setpoint_answer after.setpoint after.flags)
       × EachCall before dt state command after
   -- Every craft that a list of records leads to.
-  pub each_craft : (entries : List Entry) (held : CopterGuidance) → (machine entries).guidance ≡ Configured held → EachCraft held
+  pub each_craft : (entries : List Entry) (held : CopterGuidance) → (machine entries).guidance ≡ Some held → EachCraft held

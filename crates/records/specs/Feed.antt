@@ -1,5 +1,5 @@
 -- The claim over whole feeds: document 01's "Demand 3 over whole feeds", as the type `WholeFeeds`. proofs/Laws/Feed.antt proves it. Assumes nothing.
-use Rattle.std.specs.Prelude.{ℕ, ◌≡◌, Bool, true, false, cond, ◌⊎◌, List, [], ◌∷◌, ◌++◌, T, eqb, take, drop, Float}
+use Rattle.std.specs.Prelude.{ℕ, ◌≡◌, Bool, true, false, cond, ◌⊎◌, List, [], ◌∷◌, ◌++◌, T, eqb, take, drop, Float, None, Option, Some}
 use Rattle.std.specs.Float.Ieee.Scale.{finite}
 use Rattle.math.specs.Math.{wrap_angle}
 use Rattle.wind.specs.declared.state.VehicleState.{VehicleState}
@@ -7,8 +7,6 @@ use Rattle.heading.specs.declared.hover_wind.HoverWind.{HoverWind}
 use Rattle.heading.specs.HoverWind as hover
 use Rattle.copter.specs.Memory.{fresh}
 use Rattle.copter.specs.Guide.{new_craft}
-use Rattle.records.specs.declared.craft.Guidance.{Guidance}
-use Rattle.records.specs.declared.craft.Guidance.TheVariants.{Unconfigured, Configured}
 use Rattle.records.specs.declared.craft.Craft.{Craft}
 use Rattle.records.specs.declared.answer.Answer.{Answer}
 use Rattle.records.specs.declared.step.Handled.{Handled}
@@ -17,6 +15,7 @@ use Rattle.records.specs.Craft.{unconfigured}
 use Rattle.records.specs.Layout.{byte_at}
 use Rattle.records.specs.Kinds.{kind_of, body_length, state_start, command_start}
 use Rattle.records.specs.Read.{state_at, absolute_attitude_command}
+use Rattle.copter.specs.declared.memory.CopterGuidance.{CopterGuidance}
 use Rattle.records.specs.Step.{Outcome, step, reported}
 
 -- ---- feeds
@@ -117,18 +116,18 @@ pub record Priming (craft : Craft) (entry : Entry) : Type 0 where
 -- ---- what the machine is set to
 
 -- the fresh memory of the configuration held
-abbrev pub fresh_guidance : Guidance → Guidance
-fresh_guidance Unconfigured = Unconfigured
-fresh_guidance (Configured g) = Configured (new_craft g.config)
+abbrev pub fresh_guidance : Option CopterGuidance → Option CopterGuidance
+fresh_guidance None = None
+fresh_guidance (Some g) = Some (new_craft g.config)
 
 abbrev pub made_fresh : Craft → Craft
 made_fresh craft = record { guidance = fresh_guidance craft.guidance }
 
 -- the fresh memory of the configuration held, with the wind memory held and with a heading target
-abbrev pub reset_guidance : Guidance → Float → Guidance
-reset_guidance Unconfigured heading = Unconfigured
-reset_guidance (Configured g) heading =
-    Configured
+abbrev pub reset_guidance : Option CopterGuidance → Float → Option CopterGuidance
+reset_guidance None heading = None
+reset_guidance (Some g) heading =
+    Some
     (record {
       config = g.config;
       memory =
@@ -145,19 +144,19 @@ abbrev pub reset : Craft → Float → Craft
 reset craft heading = record { guidance = reset_guidance craft.guidance heading }
 
 -- the heading target held; before a configure there is none, and 0 stands for it
-abbrev pub heading_held : Guidance → Float
-heading_held Unconfigured = fresh.heading_rad
-heading_held (Configured g) = g.memory.heading_rad
+abbrev pub heading_held : Option CopterGuidance → Float
+heading_held None = fresh.heading_rad
+heading_held (Some g) = g.memory.heading_rad
 
 -- the wind memory held; before a configure there is none, and the fresh one stands for it
-abbrev pub wind_held : Guidance → HoverWind
-wind_held Unconfigured = hover.fresh
-wind_held (Configured g) = g.memory.wind
+abbrev pub wind_held : Option CopterGuidance → HoverWind
+wind_held None = hover.fresh
+wind_held (Some g) = g.memory.wind
 
 -- more than field 36 above the remembered ground
-abbrev pub above_ground : Guidance → VehicleState → Bool
-above_ground Unconfigured state = false
-above_ground (Configured g) state = hover.airborne g.memory.wind g.config.guidance.airborne_height_m state
+abbrev pub above_ground : Option CopterGuidance → VehicleState → Bool
+above_ground None state = false
+above_ground (Some g) state = hover.airborne g.memory.wind g.config.guidance.airborne_height_m state
 
 -- ---- the claim
 

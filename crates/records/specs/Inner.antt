@@ -1,20 +1,20 @@
 -- How the port divides a record and a flight: what its inner functions give. Nothing here has to be believed, since `record` and `fly` are stated without it.
 -- Assumes nothing.
-use Rattle.std.specs.Prelude.{ℕ, ◌+◌, ◌≤◌, ◌≡◌, Bool, true, false, List, length, drop}
+use Rattle.std.specs.Prelude.{ℕ, ◌+◌, ◌≤◌, ◌≡◌, Bool, true, false, List, length, drop, None, Option, Some}
 use Rattle.math.specs.declared.vectors.Vec2.{Vec2}
 use Rattle.math.specs.declared.vectors.Vec3.{Vec3}
 use Rattle.copter.specs.declared.config.CopterGuidanceConfig.{CopterGuidanceConfig}
 use Rattle.copter.specs.declared.memory.Memory.{Memory}
 use Rattle.records.specs.declared.answer.Refusal.{Refusal}
-use Rattle.records.specs.declared.craft.Guidance.{Guidance}
-use Rattle.records.specs.declared.craft.Guidance.TheVariants.{Unconfigured, Configured}
 use Rattle.records.specs.declared.craft.Craft.{Craft}
+use Rattle.records.specs.declared.answer.Answer.TheVariants as answers
 use Rattle.records.specs.declared.kinds.Kind.{Kind}
 use Rattle.records.specs.declared.kinds.Kind.TheVariants as kinds
 use Rattle.records.specs.declared.turn.Turned.{Turned}
 use Rattle.records.specs.Layout.{byte_at, float_at}
 use Rattle.records.specs.Kinds.{kind_of}
-use Rattle.records.specs.Step.{Verdict, Refused, Judged, Outcome, configured, step}
+use Rattle.records.specs.Step.{Verdict, Judged, craft_after, answer_of, configured, step}
+use Rattle.copter.specs.declared.memory.CopterGuidance.{CopterGuidance}
 use Rattle.records.specs.Flight.{Flight, waits, onward, fly_on}
 
 -- ---- reading
@@ -27,26 +27,32 @@ vec3_at part at = record { x = float_at part at; y = float_at part (at + 4); z =
 
 -- ---- a record
 
+abbrev pub guidance_of : CopterGuidanceConfig → Memory → CopterGuidance
+guidance_of config memory = record { config = config; memory = memory }
+
 abbrev pub craft_of : CopterGuidanceConfig → Memory → Craft
-craft_of config memory = configured (record { config = config; memory = memory })
+craft_of config memory = configured (guidance_of config memory)
 
 abbrev pub judged_as : Verdict → ℕ → Judged
 judged_as verdict taken = record { verdict = verdict; taken = taken }
 
-abbrev pub refused_taking : Refusal → ℕ → Judged
-refused_taking refusal taken = judged_as (Refused refusal) taken
+abbrev pub refused : {K : Type 0} → K → Refusal → ℕ → Turned K
+refused kept refusal taken = record { kept = kept; answer = answers.Refused refusal; taken = taken }
+
+-- what a record comes to, before its answer is written
+abbrev pub came : Craft → Judged → Turned Craft
+came craft j = record { kept = craft_after craft j.verdict; answer = answer_of j.verdict; taken = j.taken }
+
+-- the same with the configuration that `turn` leaves where it is
+abbrev pub in_craft : CopterGuidanceConfig → Turned Memory → Turned Craft
+in_craft config t = record { kept = craft_of config t.kept; answer = t.answer; taken = t.taken }
 
 -- whether `turn` serves a record
-abbrev pub serves : Guidance → Kind → Bool
-serves Unconfigured kind = false
-serves (Configured g) kinds.Configure = false
-serves (Configured g) (kinds.InFlight _) = true
-serves (Configured g) kinds.Unknown = false
-
--- what `turn` gives, with the buffer that it leaves
-abbrev pub turned : CopterGuidanceConfig → Turned → List ℕ → Outcome
-turned config r buffer =
-    record { craft = craft_of config r.memory; answer = r.answer; taken = r.taken; written = r.written; buffer = buffer }
+abbrev pub serves : Option CopterGuidance → Option Kind → Bool
+serves (Some g) (Some (kinds.InFlight _)) = true
+serves (Some g) (Some kinds.Configure) = false
+serves (Some g) None = false
+serves None kind = false
 
 -- ---- a flight under way
 

@@ -1,5 +1,5 @@
 -- The kinds of records and the layout of each body, as document 01's "The flight file" has them. Assumes nothing.
-use Rattle.std.specs.Prelude.{ℕ, List, [], ◌∷◌, ◌++◌, get_or}
+use Rattle.std.specs.Prelude.{ℕ, List, [], ◌∷◌, ◌++◌, get_or, None, Option, Some}
 use Rattle.copter.specs.Config.{field_count}
 use Rattle.records.specs.declared.kinds.Call.{Call}
 use Rattle.records.specs.declared.kinds.Call.TheVariants as calls
@@ -11,27 +11,27 @@ use Rattle.records.specs.Layout.{Part, Mark, numbers, size}
 
 -- ---- the byte of kind
 
-abbrev pub call : Call → Kind
-call c = kinds.InFlight (flights.Call c)
+abbrev pub call : Call → Option Kind
+call c = Some (kinds.InFlight (flights.Call c))
 
 -- what the bytes 0, 1, 2 and so on say
-unfoldable pub known : List Kind
+unfoldable pub known : List (Option Kind)
 known =
-    kinds.Unknown
-    ∷ kinds.Configure  -- 1
-    ∷ kinds.InFlight flights.Prime  -- 2
+    None
+    ∷ Some kinds.Configure  -- 1
+    ∷ Some (kinds.InFlight flights.Prime)  -- 2
     ∷ call calls.Attitude  -- 3
-    ∷ kinds.InFlight flights.Rate  -- 4
+    ∷ Some (kinds.InFlight flights.Rate)  -- 4
     ∷ call calls.Waypoint  -- 5
     ∷ call calls.AbsoluteAttitude  -- 6
     ∷ call calls.Land  -- 7
     ∷ call calls.AbsoluteRate  -- 8
-    ∷ kinds.InFlight flights.Wind  -- 9
+    ∷ Some (kinds.InFlight flights.Wind)  -- 9
     ∷ []
 
-unfoldable pub kind_of : ℕ → Kind
+unfoldable pub kind_of : ℕ → Option Kind
 unfolding known
-kind_of byte = get_or known byte kinds.Unknown
+kind_of byte = get_or known byte None
 
 -- ---- layouts
 
@@ -61,13 +61,13 @@ in_flight_layout (flights.Call c) = step_layout ++ state_layout ++ command_layou
 in_flight_layout flights.Rate = []
 in_flight_layout flights.Wind = []
 
-abbrev pub layout : Kind → List Part
-layout kinds.Configure = numbers field_count
-layout (kinds.InFlight kind) = in_flight_layout kind
-layout kinds.Unknown = []
+abbrev pub layout : Option Kind → List Part
+layout (Some kinds.Configure) = numbers field_count
+layout (Some (kinds.InFlight kind)) = in_flight_layout kind
+layout None = []
 
 -- how many bytes follow the kind
-unfoldable pub body_length : Kind → ℕ
+unfoldable pub body_length : Option Kind → ℕ
 body_length kind = size (layout kind)
 
 -- where a call's state and its command start

@@ -1,5 +1,9 @@
 -- Decoding: what a record's body says, an input or a refusal, from the bytes alone. Document 01's checks of the body, in its order. Assumes nothing.
-use Rattle.std.specs.Prelude.{ℕ, Bool, not, cond, ◌&&◌, ◌||◌, List, leb, eqb, drop, Float}
+use Rattle.records.specs.declared.answer.Refusal.{Refusal}
+use Rattle.records.specs.declared.read.Input.{Input}
+use Rattle.copter.specs.declared.config.CopterGuidanceConfig.{CopterGuidanceConfig}
+use Rattle.copter.specs.declared.commands.Command.{Command}
+use Rattle.std.specs.Prelude.{ℕ, Bool, not, cond, ◌&&◌, ◌||◌, List, leb, eqb, drop, Float, None, Option, Some, Result, Ok, Err}
 use Rattle.std.specs.Float.Ieee.{le}
 use Rattle.std.specs.Float.Ieee.Scale.{finite}
 use Rattle.floats.specs.Ops.{f32}
@@ -7,12 +11,8 @@ use Rattle.floats.specs.Compare.{abs}
 use Rattle.math.specs.Math.{one}
 use Rattle.controllers.specs.RateDivider.{shortest}
 use Rattle.wind.specs.declared.state.VehicleState.{VehicleState}
-use Rattle.heading.specs.declared.Angle.{Angle}
-use Rattle.heading.specs.declared.Angle.TheVariants as angles
 use Rattle.copter.specs.Config.{field_count, lowest, config_of}
 use Rattle.copter.specs.declared.commands.AttitudeCommand.{AttitudeCommand}
-use Rattle.copter.specs.declared.commands.TargetVelocity.{TargetVelocity}
-use Rattle.copter.specs.declared.commands.TargetVelocity.TheVariants as velocities
 use Rattle.copter.specs.declared.commands.WaypointCommand.{WaypointCommand}
 use Rattle.copter.specs.declared.commands.AbsoluteAttitudeCommand.{AbsoluteAttitudeCommand}
 use Rattle.copter.specs.declared.commands.LandCommand.{LandCommand}
@@ -24,13 +24,8 @@ use Rattle.records.specs.declared.kinds.Call.TheVariants as calls
 use Rattle.records.specs.declared.kinds.InFlight.{InFlight}
 use Rattle.records.specs.declared.kinds.InFlight.TheVariants as flights
 use Rattle.records.specs.declared.read.Input.TheVariants as inputs
-use Rattle.records.specs.declared.read.Read.{Read}
-use Rattle.records.specs.declared.read.Read.TheVariants as reading
-use Rattle.records.specs.declared.read.Configuration.{Configuration}
-use Rattle.records.specs.declared.read.Configuration.TheVariants.{Of, Broken}
-use Rattle.records.specs.declared.read.CommandRead.{CommandRead}
-use Rattle.records.specs.declared.read.CommandRead.TheVariants as commanded
 use Rattle.records.specs.Layout.{float_at, Takes, reads, floats_from}
+use Rattle.math.specs.declared.vectors.Vec2.{Vec2}
 use Rattle.records.specs.Kinds.{state_layout, command_layout, state_start, command_start}
 
 -- ---- the parts of a body, each read from its own start
@@ -56,11 +51,11 @@ unfoldable pub attitude_command : List ℕ → AttitudeCommand
 attitude_command = reads (command_layout calls.Attitude) attitude_of
 
 -- a mark is 1 present, 0 absent
-abbrev pub target_velocity : ℕ → Float → Float → TargetVelocity
-target_velocity mark x y = cond (eqb mark 1) (velocities.Mps (record { x = x; y = y })) velocities.Nothing
+abbrev pub target_velocity : ℕ → Float → Float → Option Vec2
+target_velocity mark x y = cond (eqb mark 1) (Some (record { x = x; y = y })) None
 
-abbrev pub commanded_heading : ℕ → Float → Angle
-commanded_heading mark heading = cond (eqb mark 1) (angles.Rad heading) angles.Nothing
+abbrev pub commanded_heading : ℕ → Float → Option Float
+commanded_heading mark heading = cond (eqb mark 1) (Some heading) None
 
 abbrev pub waypoint_of : Takes (command_layout calls.Waypoint) WaypointCommand
 waypoint_of x y velocity_mark vx vy altitude cruise heading_mark heading =
@@ -101,12 +96,12 @@ unfoldable pub absolute_rate_command : List ℕ → AbsoluteRateCommand
 absolute_rate_command = reads (command_layout calls.AbsoluteRate) absolute_rate_of
 
 -- a call's command; floats after a mark of 0 are not read
-unfoldable pub command : Call → List ℕ → CommandRead
-command calls.Attitude part = commanded.Command (commands.Attitude (attitude_command part))
-command calls.Waypoint part = cond (marks_ok part) (commanded.Command (commands.Waypoint (waypoint_command part))) commanded.BadMark
-command calls.AbsoluteAttitude part = commanded.Command (commands.AbsoluteAttitude (absolute_attitude_command part))
-command calls.Land part = commanded.Command (commands.Land (land_command part))
-command calls.AbsoluteRate part = commanded.Command (commands.AbsoluteRate (absolute_rate_command part))
+unfoldable pub command : Call → List ℕ → Result Command Refusal
+command calls.Attitude part = Ok (commands.Attitude (attitude_command part))
+command calls.Waypoint part = cond (marks_ok part) (Ok (commands.Waypoint (waypoint_command part))) (Err refusals.Mark)
+command calls.AbsoluteAttitude part = Ok (commands.AbsoluteAttitude (absolute_attitude_command part))
+command calls.Land part = Ok (commands.Land (land_command part))
+command calls.AbsoluteRate part = Ok (commands.AbsoluteRate (absolute_rate_command part))
 
 -- the state that starts at a byte
 abbrev pub state_at : List ℕ → ℕ → VehicleState
@@ -129,25 +124,25 @@ heading_ok heading = not (finite heading) || le (abs heading) heading_limit
 -- ---- what a body says
 
 -- the lowest field that breaks its rule, or the configuration
-unfoldable pub configuration : List ℕ → Configuration
+unfoldable pub configuration : List ℕ → Result CopterGuidanceConfig Refusal
 configuration body =
     let values = floats_from 0 field_count body in
     let field = lowest values 1 field_count in
-    cond (leb field field_count) (Broken field) (Of (config_of values))
+    cond (leb field field_count) (Err (refusals.Field field)) (Ok (config_of values))
 
-unfoldable pub prime_input : VehicleState → Read
-prime_input state = cond (heading_ok state.heading_rad) (reading.Input (inputs.Prime state)) (reading.Refused refusals.Heading)
+unfoldable pub prime_input : VehicleState → Result Input Refusal
+prime_input state = cond (heading_ok state.heading_rad) (Ok (inputs.Prime state)) (Err refusals.Heading)
 
 -- a call's marks, its time step, its heading
-unfoldable pub call_input : CommandRead → Float → VehicleState → Read
-call_input commanded.BadMark dt state = reading.Refused refusals.Mark
-call_input (commanded.Command command) dt state =
-    cond (time_step_ok dt) (cond (heading_ok state.heading_rad) (reading.Input (inputs.Call dt state command)) (reading.Refused refusals.Heading))
-    (reading.Refused refusals.TimeStep)
+unfoldable pub call_input : Result Command Refusal → Float → VehicleState → Result Input Refusal
+call_input (Err refusal) dt state = Err refusal
+call_input (Ok command) dt state =
+    cond (time_step_ok dt) (cond (heading_ok state.heading_rad) (Ok (inputs.Call dt state command)) (Err refusals.Heading))
+    (Err refusals.TimeStep)
 
-unfoldable pub read : InFlight → List ℕ → Read
+unfoldable pub read : InFlight → List ℕ → Result Input Refusal
 unfolding prime_input call_input
 read flights.Prime body = prime_input (state body)
 read (flights.Call call) body = call_input (command call (drop command_start body)) (float_at body 0) (state_at body state_start)
-read flights.Rate body = reading.Refused refusals.Rate
-read flights.Wind body = reading.Input inputs.Wind
+read flights.Rate body = Err refusals.Rate
+read flights.Wind body = Ok inputs.Wind

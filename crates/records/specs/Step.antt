@@ -1,15 +1,12 @@
 -- What a record does: document 01's machine, one record at a time. A body is decoded (Read.antt), and what it says is performed. Assumes nothing.
-use Rattle.std.specs.Prelude.{ℕ, suc, cond, List, ◌++◌, ltb, eqb, length, take, drop}
-use Rattle.wind.specs.declared.window.Filter.{Filter}
-use Rattle.wind.specs.declared.window.Filter.TheVariants as filters
+use Rattle.copter.specs.declared.config.CopterGuidanceConfig.{CopterGuidanceConfig}
+use Rattle.std.specs.Prelude.{ℕ, suc, cond, List, ◌++◌, ltb, eqb, length, take, drop, None, Option, Some, Result, Ok, Err}
 use Rattle.copter.specs.Guide.{guide_call, new_craft, prime, wind_reading}
 use Rattle.copter.specs.declared.memory.CopterGuidance.{CopterGuidance}
 use Rattle.copter.specs.declared.commands.Setpoint.{Setpoint}
 use Rattle.copter.specs.declared.commands.Setpoint.TheVariants as setpoints
 use Rattle.copter.specs.declared.commands.Flags.{Flags}
 use Rattle.copter.specs.declared.guide.Guided.{Guided}
-use Rattle.records.specs.declared.craft.Guidance.{Guidance}
-use Rattle.records.specs.declared.craft.Guidance.TheVariants.{Unconfigured, Configured}
 use Rattle.records.specs.declared.craft.Craft.{Craft}
 use Rattle.records.specs.declared.answer.Refusal.{Refusal}
 use Rattle.records.specs.declared.answer.Refusal.TheVariants as refusals
@@ -19,19 +16,16 @@ use Rattle.records.specs.declared.kinds.Kind.{Kind}
 use Rattle.records.specs.declared.kinds.Kind.TheVariants as kinds
 use Rattle.records.specs.declared.read.Input.{Input}
 use Rattle.records.specs.declared.read.Input.TheVariants as inputs
-use Rattle.records.specs.declared.read.Read.{Read}
-use Rattle.records.specs.declared.read.Read.TheVariants as reading
-use Rattle.records.specs.declared.read.Configuration.{Configuration}
-use Rattle.records.specs.declared.read.Configuration.TheVariants.{Of, Broken}
 use Rattle.records.specs.declared.turn.Performed.{Performed}
 use Rattle.records.specs.declared.step.Handled.{Handled}
 use Rattle.records.specs.Answer.{answer_bytes}
 use Rattle.records.specs.Layout.{byte_at}
 use Rattle.records.specs.Kinds.{kind_of, body_length}
+use Rattle.wind.specs.declared.estimate.WindEstimate.{WindEstimate}
 use Rattle.records.specs.Read.{configuration, read}
 
 abbrev pub configured : CopterGuidance → Craft
-configured g = record { guidance = Configured g }
+configured g = record { guidance = Some g }
 
 -- ---- performing: an input on a configured craft, which never refuses and leaves the configuration
 
@@ -40,9 +34,9 @@ unfoldable pub setpoint_answer : Setpoint → Flags → Answer
 setpoint_answer (setpoints.Attitude s) flags = answers.Attitude s flags
 setpoint_answer (setpoints.BodyRate s) flags = answers.BodyRate s flags
 
-unfoldable pub wind_answer : Filter → Answer
-wind_answer filters.Nothing = answers.NoWind
-wind_answer (filters.Estimate estimate) = answers.Wind estimate
+unfoldable pub wind_answer : Option WindEstimate → Answer
+wind_answer None = answers.NoWind
+wind_answer (Some estimate) = answers.Wind estimate
 
 unfoldable pub guided : Guided → Performed
 guided g = record { memory = g.craft.memory; answer = setpoint_answer g.setpoint g.flags }
@@ -63,21 +57,21 @@ abbrev pub performed : CopterGuidance → Performed → Verdict
 performed g p = Accepted (record { config = g.config; memory = p.memory }) p.answer
 
 -- an accepted configure starts a fresh craft
-unfoldable pub configure : Configuration → Verdict
-configure (Of config) = Accepted (new_craft config) answers.Done
-configure (Broken field) = Refused (refusals.Field field)
+unfoldable pub configure : Result CopterGuidanceConfig Refusal → Verdict
+configure (Ok config) = Accepted (new_craft config) answers.Done
+configure (Err refusal) = Refused refusal
 
 -- any other kind needs a craft
-unfoldable pub told : Guidance → Read → Verdict
-told Unconfigured reads = Refused refusals.NotConfigured
-told (Configured g) (reading.Input input) = performed g (perform g input)
-told (Configured g) (reading.Refused refusal) = Refused refusal
+unfoldable pub told : Option CopterGuidance → Result Input Refusal → Verdict
+told None reads = Refused refusals.NotConfigured
+told (Some g) (Ok input) = performed g (perform g input)
+told (Some g) (Err refusal) = Refused refusal
 
 -- a record of a kind, over its whole body
-unfoldable pub serve : Kind → Guidance → List ℕ → Verdict
-serve kinds.Configure guidance body = configure (configuration body)
-serve (kinds.InFlight kind) guidance body = told guidance (read kind body)
-serve kinds.Unknown guidance body = Refused refusals.Kind
+unfoldable pub serve : Option Kind → Option CopterGuidance → List ℕ → Verdict
+serve (Some kinds.Configure) guidance body = configure (configuration body)
+serve (Some (kinds.InFlight kind)) guidance body = told guidance (read kind body)
+serve None guidance body = Refused refusals.Kind
 
 -- The verdict, and the bytes taken.
 pub record Judged : Type 0 where
@@ -89,19 +83,18 @@ abbrev pub untaken : Refusal → Judged
 untaken refusal = record { verdict = Refused refusal; taken = 0 }
 
 -- a body cut short is 6
-abbrev pub with_body : Kind → Guidance → List ℕ → Judged
+abbrev pub with_body : Option Kind → Option CopterGuidance → List ℕ → Judged
 with_body kind guidance rest =
     let needed = body_length kind in
     cond (ltb (length rest) needed) (untaken refusals.Short) (record { verdict = serve kind guidance (take needed rest); taken = suc needed })
 
 -- an unknown kind is 5
-unfoldable pub with_kind : Kind → Guidance → List ℕ → Judged
-with_kind kinds.Configure guidance rest = with_body kinds.Configure guidance rest
-with_kind (kinds.InFlight kind) guidance rest = with_body (kinds.InFlight kind) guidance rest
-with_kind kinds.Unknown guidance rest = untaken refusals.Kind
+unfoldable pub with_kind : Option Kind → Option CopterGuidance → List ℕ → Judged
+with_kind (Some kind) guidance rest = with_body (Some kind) guidance rest
+with_kind None guidance rest = untaken refusals.Kind
 
 -- a missing kind byte is 6
-unfoldable pub judged : Guidance → List ℕ → Judged
+unfoldable pub judged : Option CopterGuidance → List ℕ → Judged
 judged guidance bytes = cond (eqb (length bytes) 0) (untaken refusals.Short) (with_kind (kind_of (byte_at bytes 0)) guidance (drop 1 bytes))
 
 -- ---- the record operation

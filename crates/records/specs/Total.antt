@@ -1,16 +1,13 @@
 -- Demand 1, as the type `Total`: which records are accepted, by which number each other one is refused, and what each takes and leaves. `why` is document 01's "How each
 -- operation refuses", check after check, with its numbers of refusals, its places and limits and its 25 bytes; `Numbered` has its kinds, with the bytes of each.
 -- proofs/Laws/Total.antt proves the claim. Assumes nothing.
-use Rattle.std.specs.Prelude.{ℕ, zero, suc, ◌-◌, ◌*◌, ◌≤◌, ◌<◌, ◌≡◌, Bool, true, false, not, cond, ◌&&◌, ◌||◌, ◌↔◌, List, [], ◌∷◌, ◌++◌, leb, ltb, eqb, length, take, drop, Float}
-use Rattle.std.proofs.Math.Option.{Option, none, some}
+use Rattle.std.specs.Prelude.{ℕ, zero, suc, ◌-◌, ◌*◌, ◌≤◌, ◌<◌, ◌≡◌, Bool, true, false, not, cond, ◌&&◌, ◌||◌, ◌↔◌, List, [], ◌∷◌, ◌++◌, leb, ltb, eqb, length, take, drop, Float, None, Option, Some}
 use Rattle.std.specs.Float.Ieee.{le}
 use Rattle.std.specs.Float.Ieee.Scale.{finite}
 use Rattle.floats.specs.Ops.{f32}
 use Rattle.floats.specs.Compare.{abs}
 use Rattle.copter.specs.Config.{field_count, rule, config_of, Valid}
 use Rattle.copter.specs.declared.config.CopterGuidanceConfig.{CopterGuidanceConfig}
-use Rattle.records.specs.declared.craft.Guidance.{Guidance}
-use Rattle.records.specs.declared.craft.Guidance.TheVariants.{Unconfigured, Configured}
 use Rattle.records.specs.declared.craft.Craft.{Craft}
 use Rattle.records.specs.declared.answer.Refusal.{Refusal}
 use Rattle.records.specs.declared.answer.Answer.{Answer}
@@ -21,6 +18,7 @@ use Rattle.records.specs.declared.kinds.Kind.TheVariants as kinds
 use Rattle.records.specs.Answer.{number, field_of, refusal_of, accepted, answer_bytes}
 use Rattle.records.specs.Layout.{byte_at, float_at, floats_from}
 use Rattle.records.specs.Kinds.{call, kind_of, body_length}
+use Rattle.copter.specs.declared.memory.CopterGuidance.{CopterGuidance}
 use Rattle.records.specs.Step.{Outcome, step}
 
 -- ---- why a record is refused
@@ -41,16 +39,16 @@ abbrev pub reason : Refusal → Reason
 reason refusal = record { number = number refusal; field = field_of refusal }
 
 abbrev pub reason_in : Option Refusal → Option Reason
-reason_in none = none
-reason_in (some refusal) = some (reason refusal)
+reason_in None = None
+reason_in (Some refusal) = Some (reason refusal)
 
 -- the reason that an answer gives, or none
 abbrev pub reason_of : Answer → Option Reason
 reason_of answer = reason_in (refusal_of answer)
 
 abbrev pub no_reason : Option Reason → Bool
-no_reason none = true
-no_reason (some reason) = false
+no_reason None = true
+no_reason (Some reason) = false
 
 -- a check, and the reason where it fails
 pub record Check : Type 0 where
@@ -62,12 +60,12 @@ check fails reason = record { fails = fails; reason = reason }
 
 -- Checks run in the order written.
 unfoldable pub first_failing : List Check → Option Reason
-first_failing [] = none
-first_failing (c ∷ checks) = cond c.fails (some c.reason) (first_failing checks)
+first_failing [] = None
+first_failing (c ∷ checks) = cond c.fails (Some c.reason) (first_failing checks)
 
-abbrev pub no_craft : Guidance → Check
-no_craft Unconfigured = check true (because 7)
-no_craft (Configured g) = check false (because 7)
+abbrev pub no_craft : Option CopterGuidance → Check
+no_craft None = check true (because 7)
+no_craft (Some g) = check false (because 7)
 
 -- the fields from n on, d of them; field n stands at 4 (n - 1)
 unfoldable pub fields_kept : List ℕ → ℕ → ℕ → List Check
@@ -87,18 +85,18 @@ abbrev pub step_and_heading : List ℕ → List Check
 step_and_heading body = check (out_of_range (float_at body 0)) (because 2) ∷ check (too_large (float_at body 60)) (because 3) ∷ []
 
 -- the checks of each kind, over its body
-abbrev pub own_checks : Kind → Guidance → List ℕ → List Check
-own_checks kinds.Configure guidance body = fields_kept body 1 field_count
-own_checks (kinds.InFlight flights.Prime) guidance body = no_craft guidance ∷ check (too_large (float_at body 56)) (because 3) ∷ []
-own_checks (kinds.InFlight (flights.Call calls.Attitude)) guidance body = no_craft guidance ∷ step_and_heading body
-own_checks (kinds.InFlight (flights.Call calls.Waypoint)) guidance body =
+abbrev pub own_checks : Option Kind → Option CopterGuidance → List ℕ → List Check
+own_checks (Some kinds.Configure) guidance body = fields_kept body 1 field_count
+own_checks (Some (kinds.InFlight flights.Prime)) guidance body = no_craft guidance ∷ check (too_large (float_at body 56)) (because 3) ∷ []
+own_checks (Some (kinds.InFlight (flights.Call calls.Attitude))) guidance body = no_craft guidance ∷ step_and_heading body
+own_checks (Some (kinds.InFlight (flights.Call calls.Waypoint))) guidance body =
     no_craft guidance ∷ check (not (leb (byte_at body 72) 1 && leb (byte_at body 89) 1)) (because 8) ∷ step_and_heading body
-own_checks (kinds.InFlight (flights.Call calls.AbsoluteAttitude)) guidance body = no_craft guidance ∷ step_and_heading body
-own_checks (kinds.InFlight (flights.Call calls.Land)) guidance body = no_craft guidance ∷ step_and_heading body
-own_checks (kinds.InFlight (flights.Call calls.AbsoluteRate)) guidance body = no_craft guidance ∷ step_and_heading body
-own_checks (kinds.InFlight flights.Rate) guidance body = no_craft guidance ∷ check true (because 4) ∷ []
-own_checks (kinds.InFlight flights.Wind) guidance body = no_craft guidance ∷ []
-own_checks kinds.Unknown guidance body = []
+own_checks (Some (kinds.InFlight (flights.Call calls.AbsoluteAttitude))) guidance body = no_craft guidance ∷ step_and_heading body
+own_checks (Some (kinds.InFlight (flights.Call calls.Land))) guidance body = no_craft guidance ∷ step_and_heading body
+own_checks (Some (kinds.InFlight (flights.Call calls.AbsoluteRate))) guidance body = no_craft guidance ∷ step_and_heading body
+own_checks (Some (kinds.InFlight flights.Rate)) guidance body = no_craft guidance ∷ check true (because 4) ∷ []
+own_checks (Some (kinds.InFlight flights.Wind)) guidance body = no_craft guidance ∷ []
+own_checks None guidance body = []
 
 -- an answer buffer has this many bytes at least
 abbrev pub least_room : ℕ
@@ -125,20 +123,20 @@ why craft bytes buffer = first_failing (checks craft bytes buffer)
 -- ---- kinds
 
 -- what a byte of kind says, and how many bytes follow it
-pub record Says (byte : ℕ) (kind : Kind) (following : ℕ) : Type 0 where
+pub record Says (byte : ℕ) (kind : Option Kind) (following : ℕ) : Type 0 where
   pub says : kind_of byte ≡ kind
   pub follow : body_length kind ≡ following
 
 pub record Numbered : Type 0 where
-  pub configure : Says 1 kinds.Configure 200
-  pub prime : Says 2 (kinds.InFlight flights.Prime) 60
+  pub configure : Says 1 (Some kinds.Configure) 200
+  pub prime : Says 2 (Some (kinds.InFlight flights.Prime)) 60
   pub attitude : Says 3 (call calls.Attitude) 80
-  pub rate : Says 4 (kinds.InFlight flights.Rate) 0
+  pub rate : Says 4 (Some (kinds.InFlight flights.Rate)) 0
   pub waypoint : Says 5 (call calls.Waypoint) 94
   pub absolute_attitude : Says 6 (call calls.AbsoluteAttitude) 80
   pub land : Says 7 (call calls.Land) 72
   pub absolute_rate : Says 8 (call calls.AbsoluteRate) 80
-  pub wind : Says 9 (kinds.InFlight flights.Wind) 0
+  pub wind : Says 9 (Some (kinds.InFlight flights.Wind)) 0
 
 -- ---- configurations
 
@@ -182,7 +180,7 @@ takes_none n = eqb n 5 || eqb n 6 || eqb n 9
 
 -- What a record refused for a reason leaves: the craft as it was, and all of the buffer but its first three bytes; a buffer under 25 bytes wholly as it was.
 pub record Refusing (craft : Craft) (bytes buffer : List ℕ) (reason : Reason) (outcome : Outcome) : Type 0 where
-  pub refused : reason_of outcome.answer ≡ some reason
+  pub refused : reason_of outcome.answer ≡ Some reason
   pub craft_stays : outcome.craft ≡ craft
   pub buffer_left : outcome.buffer ≡ cond (ltb (length buffer) least_room) buffer (3 ∷ reason.number ∷ reason.field ∷ drop 3 buffer)
   pub written : outcome.written ≡ cond (ltb (length buffer) least_room) 0 3
@@ -209,6 +207,6 @@ pub record Total : Type 0 where
   -- Else it is refused with the lowest field that breaks its rule.
   pub else_lowest : (craft : Craft) (bytes buffer : List ℕ) → Configures bytes buffer
       → accepted (step craft bytes buffer).answer ≡ false
-      → (n : ℕ) × (reason_of (step craft bytes buffer).answer ≡ some (broken n)) × Lowest (fields_in bytes) n
-  pub refused_stays : (craft : Craft) (bytes buffer : List ℕ) (reason : Reason) → why craft bytes buffer ≡ some reason
+      → (n : ℕ) × (reason_of (step craft bytes buffer).answer ≡ Some (broken n)) × Lowest (fields_in bytes) n
+  pub refused_stays : (craft : Craft) (bytes buffer : List ℕ) (reason : Reason) → why craft bytes buffer ≡ Some reason
       → Refusing craft bytes buffer reason (step craft bytes buffer)

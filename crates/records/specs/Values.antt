@@ -1,15 +1,11 @@
 -- The values of a state, of each command and of a call's body, by name, in the order of document 01's "The flight file". Laid so, they read back
 -- (proofs/Laws/Values.antt). Assumes nothing.
-use Rattle.std.specs.Prelude.{ℕ, List, [], ◌∷◌, ◌++◌, Float}
+use Rattle.std.specs.Prelude.{ℕ, List, [], ◌∷◌, ◌++◌, Float, None, Option, Some}
 use Rattle.math.specs.declared.vectors.Vec2.{Vec2}
 use Rattle.math.specs.declared.vectors.Vec3.{Vec3}
 use Rattle.math.specs.declared.vectors.Quaternion.{Quaternion}
 use Rattle.wind.specs.declared.state.VehicleState.{VehicleState}
-use Rattle.heading.specs.declared.Angle.{Angle}
-use Rattle.heading.specs.declared.Angle.TheVariants as angles
 use Rattle.copter.specs.declared.commands.AttitudeCommand.{AttitudeCommand}
-use Rattle.copter.specs.declared.commands.TargetVelocity.{TargetVelocity}
-use Rattle.copter.specs.declared.commands.TargetVelocity.TheVariants as velocities
 use Rattle.copter.specs.declared.commands.WaypointCommand.{WaypointCommand}
 use Rattle.copter.specs.declared.commands.AbsoluteAttitudeCommand.{AbsoluteAttitudeCommand}
 use Rattle.copter.specs.declared.commands.LandCommand.{LandCommand}
@@ -43,21 +39,21 @@ pub record Unread : Type 0 where
   pub heading : Float
 
 -- a mark is 1 present, 0 absent
-abbrev pub velocity_mark : TargetVelocity → ℕ
-velocity_mark velocities.Nothing = 0
-velocity_mark (velocities.Mps v) = 1
+abbrev pub velocity_mark : Option Vec2 → ℕ
+velocity_mark None = 0
+velocity_mark (Some v) = 1
 
-abbrev pub velocity_or : Vec2 → TargetVelocity → Vec2
-velocity_or unread velocities.Nothing = unread
-velocity_or unread (velocities.Mps v) = v
+abbrev pub velocity_or : Vec2 → Option Vec2 → Vec2
+velocity_or unread None = unread
+velocity_or unread (Some v) = v
 
-abbrev pub heading_mark : Angle → ℕ
-heading_mark angles.Nothing = 0
-heading_mark (angles.Rad heading) = 1
+abbrev pub heading_mark : Option Float → ℕ
+heading_mark None = 0
+heading_mark (Some heading) = 1
 
-abbrev pub heading_or : Float → Angle → Float
-heading_or unread angles.Nothing = unread
-heading_or unread (angles.Rad heading) = heading
+abbrev pub heading_or : Float → Option Float → Float
+heading_or unread None = unread
+heading_or unread (Some heading) = heading
 
 abbrev pub waypoint_values : Unread → WaypointCommand → List Value
 waypoint_values unread c =

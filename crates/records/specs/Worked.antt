@@ -1,6 +1,6 @@
 -- Document 01's "Worked flights, proved together", as one table: the type `WorkedFlights`, a field for each row. proofs/Laws/Worked.antt proves it. A float
 -- is written by its bits, in hexadecimal, and the comment of its row has the number beside them; 0, 0.5, 1 and 2 have names. Assumes nothing.
-use Rattle.std.specs.Prelude.{ℕ, ◌≤◌, ◌≡◌, true, false, List, [], ◌∷◌, ◌++◌, map, length, take, replicate, Float}
+use Rattle.std.specs.Prelude.{ℕ, ◌≤◌, ◌≡◌, true, false, List, [], ◌∷◌, ◌++◌, map, length, take, replicate, Float, None, Some}
 use Rattle.std.specs.Float.{binary32, nan, inf}
 use Rattle.std.specs.Float.Ieee.{neg, to_bits}
 use Rattle.floats.specs.Ops.{f32}
@@ -8,10 +8,8 @@ use Rattle.floats.specs.Sqrt.{sqrt}
 use Rattle.math.specs.Math.{zero, half, one, two, wrap_angle, tilt_boost, shaped_closing_speed, guard_sink, cap_magnitude}
 use Rattle.math.specs.declared.vectors.Vec2.{Vec2}
 use Rattle.math.specs.declared.vectors.Quaternion.{Quaternion}
-use Rattle.math.specs.declared.SinkGuard.TheVariants.{Raised, Off}
 use Rattle.controllers.specs.RateDivider.{due, ran}
 use Rattle.controllers.specs.declared.rate_divider.RateDivider.{RateDivider}
-use Rattle.controllers.specs.declared.rate_divider.Due.TheVariants.{Step, NotYet}
 use Rattle.controllers.specs.declared.rate_divider.Paced.{Paced}
 use Rattle.altitude.specs.Altitude.{control}
 use Rattle.altitude.specs.declared.AltitudeControllerConfig.{AltitudeControllerConfig}
@@ -128,10 +126,10 @@ pub record WorkedFlights : Type 0 where
   }
   -- W3 period 0.02 after a run: dt 1/64 (3C800000) due with 1/64; dt 1/128 due on the third call with 3/128 (3CC00000).
   pub w3 : record {
-    at_once : (paced ran (f32 0x3C80_0000)).due ≡ Step (f32 0x3C80_0000);
-    not_on_first : first.due ≡ NotYet;
-    not_on_second : second.due ≡ NotYet;
-    on_third : third.due ≡ Step (f32 0x3CC0_0000);
+    at_once : (paced ran (f32 0x3C80_0000)).due ≡ Some (f32 0x3C80_0000);
+    not_on_first : first.due ≡ None;
+    not_on_second : second.due ≡ None;
+    on_third : third.due ≡ Some (f32 0x3CC0_0000);
   }
   -- W4 NaN altitude target: hover, integral as before.
   pub w4 : (self : AltitudeController) (config : AltitudeControllerConfig) (dt velocity : Float) (estimate : AltitudeEstimate)
@@ -145,8 +143,8 @@ pub record WorkedFlights : Type 0 where
   }
   -- W6 sink guard, thrust 0.5, limit 2, gain 0.25 (3E800000): climb -3 (C0400000) is 0.75 (3F400000); climb -2 none.
   pub w6 : record {
-    past_limit : guard_sink half (f32 0xC040_0000) two (f32 0x3E80_0000) ≡ Raised (f32 0x3F40_0000);
-    at_limit : guard_sink half (neg two) two (f32 0x3E80_0000) ≡ Off;
+    past_limit : guard_sink half (f32 0xC040_0000) two (f32 0x3E80_0000) ≡ Some (f32 0x3F40_0000);
+    at_limit : guard_sink half (neg two) two (f32 0x3E80_0000) ≡ None;
   }
   -- W7 cap (3, 4): at 5 (40A00000) unchanged, at 2.5 (40200000) (1.5, 2); (infinity, 0) gives (0, 0). 3 is 40400000, 4 is 40800000, 1.5 is 3FC00000.
   pub w7 : record {

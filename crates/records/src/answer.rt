@@ -3,7 +3,7 @@ use copter::commands::{AttitudeSetpoint, BodyRateSetpoint, Flags};
 use wind::estimate::WindEstimate;
 
 // Why a record is refused; specs/Answer.antt gives document 01's number of each.
-#[derive(Clone, Copy)]
+#[derive(Clone, Copy, PartialEq, Eq, Debug)]
 pub enum Refusal {
     // A configuration's field breaks its rule: the lowest one that does.
     Field(u8),

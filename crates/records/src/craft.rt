@@ -4,24 +4,17 @@ ghost use Rattle.records.specs.Craft.{unconfigured};
 
 use copter::memory::CopterGuidance;
 
-// Nothing before the first accepted configure, then a craft.
-#[derive(Clone, Copy)]
-pub enum Guidance {
-    Unconfigured,
-    Configured(CopterGuidance),
-}
-
-#[derive(Clone, Copy)]
+// None before the first accepted configure, then a craft's guidance.
+#[derive(Clone, Copy, Default)]
 pub struct Craft {
-    pub guidance: Guidance,
+    pub guidance: Option<CopterGuidance>,
 }
 
 impl Craft {
+    #[tactic(auto, unfolding(crate::specs::Craft::unconfigured))]
     pub fn new() -> Craft
         ensures { result ≡ unconfigured }
     {
-        Craft {
-            guidance: Guidance::Unconfigured,
-        }
+        Craft::default()
     }
 }

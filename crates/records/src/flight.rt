@@ -3,15 +3,16 @@ ghost use Rattle.std.specs.Prelude.{◌≡◌, true, false, ◌≤◌, length};
 ghost use Rattle.records.specs.Flight.{ends_flight, cut_short, waits, fly, flown};
 ghost use Rattle.records.specs.Inner.{Going, Served, waiting, serving, next};
 
-use crate::answer::Answer;
-use crate::craft::{Craft, Guidance};
-use crate::kinds::{Kind, body_length, kind_of};
+use crate::answer::{Answer, Refusal};
+use crate::craft::Craft;
+use crate::kinds::Kind;
 use crate::step::ANSWER_ROOM;
 use crate::turn::{start, turn};
+use crate::write::write_answer;
 use copter::memory::CopterGuidance;
 
 // The craft after some records of a flight, the bytes taken and written, and whether the flight is
-// over: refusals 5 and 6 end it.
+// over: refusals 5 and 6 end it. The craft and the counts stand in both cases.
 #[derive(Clone, Copy)]
 pub struct Flown {
     pub craft: Craft,
@@ -23,40 +24,28 @@ pub struct Flown {
 fn ends_flight(answer: Answer) -> bool
     ensures { result ≡ ends_flight answer }
 {
-    let Answer::Refused(refusal) = answer else {
-        return false;
-    };
-    let number = crate::write::refusal_number(refusal);
-    if number == 5 {
-        return true;
-    }
-    number == 6
+    matches!(answer, Answer::Refused(Refusal::Kind | Refusal::Short))
 }
 
 // Whether a record has less than its whole body.
+#[tactic(auto, unfolding(crate::specs::Flight::cut_short, crate::specs::Kinds::body_length))]
 fn cut_short(bytes: &[u8]) -> bool
     requires { 1 ≤ length bytes.now }
     ensures { result ≡ cut_short bytes.now }
 {
-    let kind = kind_of(bytes[0]);
-    bytes.len() - 1 < body_length(kind)
+    match Kind::try_from(bytes[0]) {
+        Ok(kind) => bytes.len() - 1 < kind.body_length(),
+        Err(_) => false,
+    }
 }
 
 // Whether the next record is left for later: no byte of it is there, there is no room for its
 // answer, or it is cut short and more bytes may come.
+#[tactic(auto, unfolding(crate::specs::Flight::waits))]
 fn waits(last: bool, bytes: &[u8], room: usize) -> bool
     ensures { result ≡ waits last bytes.now room }
 {
-    if bytes.len() == 0 {
-        return true;
-    }
-    if room < ANSWER_ROOM {
-        return true;
-    }
-    if last {
-        return false;
-    }
-    cut_short(bytes)
+    bytes.is_empty() || room < ANSWER_ROOM || (!last && cut_short(bytes))
 }
 
 // Serves records of a configured craft, as long as they are of kinds that leave its configuration, which
@@ -65,9 +54,7 @@ fn serve(at: Flown, bytes: &[u8], last: bool, out: &mut [u8]) -> Flown
     requires { Going bytes.now (length out.old) (flown at out.old) }
     ensures { Served bytes.now last (flown at out.old) (flown result out.new) }
 {
-    let craft = at.craft;
-    let guidance = craft.guidance;
-    let Guidance::Configured(g) = guidance else {
+    let Some(g) = at.craft.guidance else {
         return at;
     };
     let config = g.config;
@@ -75,31 +62,26 @@ fn serve(at: Flown, bytes: &[u8], last: bool, out: &mut [u8]) -> Flown
     let mut taken = at.taken;
     let mut written = at.written;
     let mut ended = false;
+    // Each record says how long it is, so no iterator goes over them.
     while !waits(last, &bytes[taken..], out.len() - written) {
-        let kind = kind_of(bytes[taken]);
+        let Ok(kind) = Kind::try_from(bytes[taken]) else {
+            break;
+        };
         let Kind::InFlight(in_flight) = kind else {
             break;
         };
-        let turned = turn(
-            in_flight,
-            config,
-            memory,
-            &bytes[taken..],
-            &mut out[written..],
-        );
-        let after = turned.memory;
-        memory = after;
+        let turned = turn(in_flight, config, memory, &bytes[taken + 1..]);
+        memory = turned.kept;
         taken += turned.taken;
-        written += turned.written;
-        let answer = turned.answer;
-        if ends_flight(answer) {
+        written += write_answer(turned.answer, &mut out[written..]);
+        if ends_flight(turned.answer) {
             ended = true;
             break;
         }
     }
     Flown {
         craft: Craft {
-            guidance: Guidance::Configured(CopterGuidance { config, memory }),
+            guidance: Some(CopterGuidance { config, memory }),
         },
         taken,
         written,
@@ -114,17 +96,12 @@ fn begin(at: Flown, bytes: &[u8], out: &mut [u8]) -> Flown
     requires not_serving { serving bytes.now (flown at out.old) ≡ false }
     ensures { flown result out.new ≡ next bytes.now (flown at out.old) }
 {
-    let before = at.craft;
-    let taken = at.taken;
-    let written = at.written;
-    let handled = start(before, &bytes[taken..], &mut out[written..]);
-    let craft = handled.craft;
-    let answer = handled.answer;
+    let turned = start(at.craft, &bytes[at.taken..]);
     Flown {
-        craft,
-        taken: taken + handled.taken,
-        written: written + handled.written,
-        ended: ends_flight(answer),
+        craft: turned.kept,
+        taken: at.taken + turned.taken,
+        written: at.written + write_answer(turned.answer, &mut out[at.written..]),
+        ended: ends_flight(turned.answer),
     }
 }
 
@@ -145,8 +122,7 @@ pub fn fly(before: Craft, bytes: &[u8], last: bool, out: &mut [u8]) -> Flown
         if at.ended {
             return at;
         }
-        let taken = at.taken;
-        if waits(last, &bytes[taken..], out.len() - at.written) {
+        if waits(last, &bytes[at.taken..], out.len() - at.written) {
             return at;
         }
         at = begin(at, bytes, out);

@@ -1,12 +1,12 @@
 // The kinds of records, and how many bytes follow the byte of kind.
-ghost use Rattle.std.specs.Prelude.{◌≡◌};
+ghost use Rattle.std.specs.Prelude.{◌≡◌, Some};
 ghost use Rattle.records.specs.Layout.{size};
-ghost use Rattle.records.specs.Kinds.{kind_of, command_layout, in_flight_layout, body_length};
+ghost use Rattle.records.specs.Kinds.{command_layout, in_flight_layout, body_length, kind_of};
 
 use copter::config::FIELDS;
 
 // The calls, which fly the craft.
-#[derive(Clone, Copy)]
+#[derive(Clone, Copy, PartialEq, Eq, Debug)]
 pub enum Call {
     Attitude,
     Waypoint,
@@ -16,7 +16,7 @@ pub enum Call {
 }
 
 // The kinds that need a configured craft, and leave its configuration.
-#[derive(Clone, Copy)]
+#[derive(Clone, Copy, PartialEq, Eq, Debug)]
 pub enum InFlight {
     Prime,
     Call(Call),
@@ -24,13 +24,16 @@ pub enum InFlight {
     Wind,
 }
 
-// What a byte of kind says.
-#[derive(Clone, Copy)]
+// What a byte of kind says; both variants are kinds.
+#[derive(Clone, Copy, PartialEq, Eq, Debug)]
 pub enum Kind {
     Configure,
     InFlight(InFlight),
-    Unknown,
 }
+
+// A byte that names no kind.
+#[derive(Clone, Copy, PartialEq, Eq, Debug)]
+pub struct UnknownKind;
 
 // The bytes of a float, of a state, and of T and a state, which stand before a call's command.
 pub const NUMBER: usize = 4;
@@ -39,20 +42,29 @@ pub const STATE: usize = 15 * NUMBER;
 
 pub const COMMAND_START: usize = NUMBER + STATE;
 
-pub fn kind_of(byte: u8) -> Kind
-    ensures { result ≡ kind_of byte }
-{
-    match byte {
-        1 => Kind::Configure,
-        2 => Kind::InFlight(InFlight::Prime),
-        3 => Kind::InFlight(InFlight::Call(Call::Attitude)),
-        4 => Kind::InFlight(InFlight::Rate),
-        5 => Kind::InFlight(InFlight::Call(Call::Waypoint)),
-        6 => Kind::InFlight(InFlight::Call(Call::AbsoluteAttitude)),
-        7 => Kind::InFlight(InFlight::Call(Call::Land)),
-        8 => Kind::InFlight(InFlight::Call(Call::AbsoluteRate)),
-        9 => Kind::InFlight(InFlight::Wind),
-        _ => Kind::Unknown,
+impl TryFrom<u8> for Kind {
+    ghost use Rattle.std.specs.Prelude.{◌≡◌, None, Some};
+    ghost use Rattle.std.specs.Result.{MatchResult};
+    ghost use Rattle.records.specs.Kinds.{kind_of};
+
+    type Error = UnknownKind;
+
+    ghost try_from_gives = { λ byte r. MatchResult r (λ kind. kind_of byte ≡ Some kind) (λ _. kind_of byte ≡ None) };
+
+    #[tactic(auto, unfolding(crate::specs::Kinds::kind_of))]
+    fn try_from(byte: u8) -> Result<Kind, UnknownKind> {
+        Ok(match byte {
+            1 => Kind::Configure,
+            2 => Kind::InFlight(InFlight::Prime),
+            3 => Kind::InFlight(InFlight::Call(Call::Attitude)),
+            4 => Kind::InFlight(InFlight::Rate),
+            5 => Kind::InFlight(InFlight::Call(Call::Waypoint)),
+            6 => Kind::InFlight(InFlight::Call(Call::AbsoluteAttitude)),
+            7 => Kind::InFlight(InFlight::Call(Call::Land)),
+            8 => Kind::InFlight(InFlight::Call(Call::AbsoluteRate)),
+            9 => Kind::InFlight(InFlight::Wind),
+            _ => return Err(UnknownKind),
+        })
     }
 }
 
@@ -79,13 +91,36 @@ fn in_flight_length(kind: InFlight) -> usize
     }
 }
 
-// How many bytes follow the kind.
-pub fn body_length(kind: Kind) -> usize
+impl Kind {
+    // How many bytes follow the kind.
+    #[tactic(auto, unfolding(crate::specs::Kinds::body_length))]
+    pub fn body_length(self) -> usize
+        ensures { result ≡ body_length (Some self) }
+    {
+        match self {
+            Kind::Configure => FIELDS * NUMBER,
+            Kind::InFlight(in_flight) => in_flight_length(in_flight),
+        }
+    }
+}
+
+// What a byte of kind says; none for a byte that names no kind.
+pub fn kind_of(byte: u8) -> Option<Kind>
+    ensures { result ≡ kind_of byte }
+{
+    match Kind::try_from(byte) {
+        Ok(kind) => Some(kind),
+        Err(_) => None,
+    }
+}
+
+// How many bytes follow: no byte where no kind is named.
+#[tactic(auto, unfolding(crate::specs::Kinds::body_length))]
+pub fn body_length(kind: Option<Kind>) -> usize
     ensures { result ≡ body_length kind }
 {
     match kind {
-        Kind::Configure => FIELDS * NUMBER,
-        Kind::InFlight(in_flight) => in_flight_length(in_flight),
-        Kind::Unknown => 0,
+        Some(kind) => kind.body_length(),
+        None => 0,
     }
 }

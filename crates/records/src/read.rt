@@ -7,18 +7,17 @@ ghost use Rattle.records.specs.declared.kinds.Call.TheVariants as calls;
 ghost use Rattle.records.specs.declared.kinds.InFlight.TheVariants as flights;
 ghost use Rattle.records.specs.Kinds.{command_layout, in_flight_layout, state_layout};
 ghost use Rattle.records.specs.Inner.{vec2_at, vec3_at};
-ghost use Rattle.records.specs.Read.{state, attitude_command, waypoint_command, marks_ok};
+ghost use Rattle.records.specs.Read.{state, attitude_command};
 ghost use Rattle.records.specs.Read.{absolute_attitude_command, land_command, absolute_rate_command, command};
-ghost use Rattle.records.specs.Read.{time_step_ok, heading_ok, configuration, prime_input, call_input, read};
+ghost use Rattle.records.specs.Read.{time_step_ok, heading_ok, configuration, prime_input, read};
 
 use crate::answer::Refusal;
 use crate::kinds::{COMMAND_START, Call, InFlight, NUMBER};
 use copter::commands::{
     AbsoluteAttitudeCommand, AbsoluteRateCommand, AttitudeCommand, Command, LandCommand,
-    TargetVelocity, WaypointCommand,
+    WaypointCommand,
 };
-use copter::config::{CopterGuidanceConfig, FIELDS, LAST_FIELD};
-use heading::Angle;
+use copter::config::{CopterGuidanceConfig, FIELDS};
 use math::vectors::{Quaternion, Vec2, Vec3};
 use wind::state::VehicleState;
 
@@ -29,26 +28,6 @@ pub enum Input {
     // A time step in seconds, a state and a command.
     Call(f32, VehicleState, Command),
     Wind,
-}
-
-#[derive(Clone, Copy)]
-pub enum Read {
-    Input(Input),
-    Refused(Refusal),
-}
-
-// A configuration, or the lowest of its fields that breaks its rule.
-#[derive(Clone, Copy)]
-pub enum Configuration {
-    Of(CopterGuidanceConfig),
-    Broken(u8),
-}
-
-// A call's command, or none where a mark is neither 0 nor 1.
-#[derive(Clone, Copy)]
-pub enum CommandRead {
-    Command(Command),
-    BadMark,
 }
 
 // The largest heading that a record may have, in radians, and the shortest and the longest time step, in
@@ -65,10 +44,11 @@ fn read_word(part: &[u8], at: usize) -> u32
     requires { at + 4 ≤ length part.now }
     ensures { result ≡ word_at part.now at }
 {
-    floats::bits::le_word(part[at], part[at + 1], part[at + 2], part[at + 3])
+    u32::from_le_bytes([part[at], part[at + 1], part[at + 2], part[at + 3]])
 }
 
 // The float at an index.
+#[tactic(auto, unfolding(crate::specs::Layout::float_at))]
 fn read_f32(part: &[u8], at: usize) -> f32
     requires { at + 4 ≤ length part.now }
     ensures { result ≡ float_at part.now at }
@@ -97,6 +77,7 @@ fn read_vec3(part: &[u8], at: usize) -> Vec3
     }
 }
 
+#[tactic(auto, unfolding(crate::specs::Read::state))]
 fn read_state(part: &[u8]) -> VehicleState
     requires { size state_layout ≤ length part.now }
     ensures { result ≡ state part.now }
@@ -116,6 +97,8 @@ fn read_state(part: &[u8]) -> VehicleState
     }
 }
 
+// The commands of four numbers fill structs with fields of other names.
+#[tactic(auto, unfolding(crate::specs::Read::attitude_command))]
 fn read_attitude(part: &[u8]) -> AttitudeCommand
     requires { size (command_layout calls.Attitude) ≤ length part.now }
     ensures { result ≡ attitude_command part.now }
@@ -128,52 +111,27 @@ fn read_attitude(part: &[u8]) -> AttitudeCommand
     }
 }
 
-// The target's velocity, if its mark is 1; the floats after a 0 are not read.
-fn read_target_velocity(part: &[u8]) -> TargetVelocity
+// A waypoint, which a mark that is neither 0 nor 1 refuses. The floats after a mark of 0 are not read.
+#[tactic(auto, unfolding(crate::specs::Read::command, crate::specs::Read::marks_ok, crate::specs::Read::waypoint_command))]
+fn read_waypoint(part: &[u8]) -> Result<Command, Refusal>
     requires { size (command_layout calls.Waypoint) ≤ length part.now }
-    ensures { result ≡ (waypoint_command part.now).velocity_mps }
+    ensures { result ≡ command calls.Waypoint part.now }
 {
-    if part[8] == 1 {
-        return TargetVelocity::Mps(read_vec2(part, 9));
+    let velocity_mark = part[8];
+    let heading_mark = part[25];
+    if velocity_mark > 1 || heading_mark > 1 {
+        return Err(Refusal::Mark);
     }
-    TargetVelocity::Nothing
-}
-
-// The commanded heading, if its mark is 1.
-fn read_commanded_heading(part: &[u8]) -> Angle
-    requires { size (command_layout calls.Waypoint) ≤ length part.now }
-    ensures { result ≡ (waypoint_command part.now).heading_rad }
-{
-    if part[25] == 1 {
-        return Angle::Rad(read_f32(part, 26));
-    }
-    Angle::Nothing
-}
-
-fn read_waypoint(part: &[u8]) -> WaypointCommand
-    requires { size (command_layout calls.Waypoint) ≤ length part.now }
-    ensures { result ≡ waypoint_command part.now }
-{
-    WaypointCommand {
+    Ok(Command::Waypoint(WaypointCommand {
         position_m: read_vec2(part, 0),
-        velocity_mps: read_target_velocity(part),
+        velocity_mps: (velocity_mark == 1).then(|| read_vec2(part, 9)),
         altitude_m: read_f32(part, 17),
         cruise_speed_mps: read_f32(part, 21),
-        heading_rad: read_commanded_heading(part),
-    }
+        heading_rad: (heading_mark == 1).then(|| read_f32(part, 26)),
+    }))
 }
 
-// Both marks of a waypoint are 0 or 1.
-fn marks_ok(part: &[u8]) -> bool
-    requires { size (command_layout calls.Waypoint) ≤ length part.now }
-    ensures { result ≡ marks_ok part.now }
-{
-    if part[8] <= 1 {
-        return part[25] <= 1;
-    }
-    false
-}
-
+#[tactic(auto, unfolding(crate::specs::Read::absolute_attitude_command))]
 fn read_absolute_attitude(part: &[u8]) -> AbsoluteAttitudeCommand
     requires { size (command_layout calls.AbsoluteAttitude) ≤ length part.now }
     ensures { result ≡ absolute_attitude_command part.now }
@@ -186,6 +144,7 @@ fn read_absolute_attitude(part: &[u8]) -> AbsoluteAttitudeCommand
     }
 }
 
+#[tactic(auto, unfolding(crate::specs::Read::land_command))]
 fn read_land(part: &[u8]) -> LandCommand
     requires { size (command_layout calls.Land) ≤ length part.now }
     ensures { result ≡ land_command part.now }
@@ -195,6 +154,7 @@ fn read_land(part: &[u8]) -> LandCommand
     }
 }
 
+#[tactic(auto, unfolding(crate::specs::Read::absolute_rate_command))]
 fn read_absolute_rate(part: &[u8]) -> AbsoluteRateCommand
     requires { size (command_layout calls.AbsoluteRate) ≤ length part.now }
     ensures { result ≡ absolute_rate_command part.now }
@@ -207,119 +167,95 @@ fn read_absolute_rate(part: &[u8]) -> AbsoluteRateCommand
     }
 }
 
-fn read_command(call: Call, part: &[u8]) -> CommandRead
+// A call's command, which a mark that is neither 0 nor 1 refuses.
+#[tactic(auto, unfolding(crate::specs::Read::command))]
+fn read_command(call: Call, part: &[u8]) -> Result<Command, Refusal>
     requires { size (command_layout call) ≤ length part.now }
     ensures { result ≡ command call part.now }
 {
-    match call {
-        Call::Attitude => CommandRead::Command(Command::Attitude(read_attitude(part))),
-        Call::Waypoint => {
-            if marks_ok(part) {
-                return CommandRead::Command(Command::Waypoint(read_waypoint(part)));
-            }
-            CommandRead::BadMark
-        }
-        Call::AbsoluteAttitude => CommandRead::Command(Command::AbsoluteAttitude(
-            read_absolute_attitude(part),
-        )),
-        Call::Land => CommandRead::Command(Command::Land(read_land(part))),
-        Call::AbsoluteRate => CommandRead::Command(Command::AbsoluteRate(read_absolute_rate(part))),
-    }
+    Ok(match call {
+        Call::Attitude => Command::Attitude(read_attitude(part)),
+        Call::Waypoint => return read_waypoint(part),
+        Call::AbsoluteAttitude => Command::AbsoluteAttitude(read_absolute_attitude(part)),
+        Call::Land => Command::Land(read_land(part)),
+        Call::AbsoluteRate => Command::AbsoluteRate(read_absolute_rate(part)),
+    })
 }
 
 // From 1/4,096 to 1; a NaN is not.
+#[tactic(auto, unfolding(crate::specs::Read::time_step_ok))]
 fn time_step_ok(dt: f32) -> bool
     ensures { result ≡ time_step_ok dt }
 {
-    if SHORTEST_STEP_S <= dt {
-        return dt <= LONGEST_STEP_S;
-    }
-    false
+    SHORTEST_STEP_S <= dt && dt <= LONGEST_STEP_S
 }
 
 // Not finite, or at most 1,024 in size.
+#[tactic(auto, unfolding(crate::specs::Read::heading_ok))]
 fn heading_ok(heading_rad: f32) -> bool
     ensures { result ≡ heading_ok heading_rad }
 {
-    if floats::compare::is_finite(heading_rad) {
-        return floats::compare::abs(heading_rad) <= MAX_HEADING_RAD;
-    }
-    true
+    !floats::compare::is_finite(heading_rad) || floats::compare::abs(heading_rad) <= MAX_HEADING_RAD
 }
 
 fn read_fields(body: &[u8]) -> [f32; FIELDS]
     requires { size (numbers field_count) ≤ length body.now }
     ensures { result ≡ floats_from 0 field_count body.now }
 {
-    let mut fields = [0.0; FIELDS];
-    let mut i = 0;
-    while i < FIELDS {
-        fields[i] = read_f32(body, i * NUMBER);
-        i += 1;
-    }
-    fields
+    std::array::from_fn(|i| read_f32(body, i * NUMBER))
 }
 
-pub fn read_configuration(body: &[u8]) -> Configuration
+// A configuration, which the lowest of its fields that breaks its rule refuses.
+pub fn read_configuration(body: &[u8]) -> Result<CopterGuidanceConfig, Refusal>
     requires { size (numbers field_count) ≤ length body.now }
     ensures { result ≡ configuration body.now }
 {
     let fields = read_fields(body);
-    let field = copter::config::lowest_broken(&fields);
-    if field <= LAST_FIELD {
-        return Configuration::Broken(field);
+    match copter::config::lowest_broken(&fields) {
+        Some(field) => Err(Refusal::Field(field)),
+        None => Ok(CopterGuidanceConfig::from(&fields)),
     }
-    Configuration::Of(CopterGuidanceConfig::of_fields(&fields))
 }
 
-fn read_prime(body: &[u8]) -> Read
+#[tactic(auto, unfolding(crate::specs::Read::prime_input))]
+fn read_prime(body: &[u8]) -> Result<Input, Refusal>
     requires { size state_layout ≤ length body.now }
     ensures { result ≡ prime_input (state body.now) }
 {
     let state = read_state(body);
-    if heading_ok(state.heading_rad) {
-        return Read::Input(Input::Prime(state));
+    if !heading_ok(state.heading_rad) {
+        return Err(Refusal::Heading);
     }
-    Read::Refused(Refusal::Heading)
+    Ok(Input::Prime(state))
 }
 
-// The checks of a call, in document 01's order: its marks, its time step, its heading.
-fn call_input(command_read: CommandRead, dt: f32, state: VehicleState) -> Read
-    ensures { result ≡ call_input command_read dt state }
-{
-    let CommandRead::Command(command) = command_read else {
-        return Read::Refused(Refusal::Mark);
-    };
-    let in_time = time_step_ok(dt);
-    let headed = heading_ok(state.heading_rad);
-    if in_time {
-        if headed {
-            return Read::Input(Input::Call(dt, state, command));
-        }
-        return Read::Refused(Refusal::Heading);
-    }
-    Read::Refused(Refusal::TimeStep)
-}
-
-fn read_call(call: Call, body: &[u8]) -> Read
+// The checks of a call are in document 01's order: its marks, its time step, its heading.
+fn read_call(call: Call, body: &[u8]) -> Result<Input, Refusal>
     requires { size (in_flight_layout (flights.Call call)) ≤ length body.now }
     ensures { result ≡ read (flights.Call call) body.now }
 {
-    let command_read = read_command(call, &body[COMMAND_START..]);
+    let command = read_command(call, &body[COMMAND_START..])?;
     let dt = read_f32(body, 0);
     let state = read_state(&body[NUMBER..]);
-    call_input(command_read, dt, state)
+    if !time_step_ok(dt) {
+        return Err(Refusal::TimeStep);
+    }
+    if !heading_ok(state.heading_rad) {
+        return Err(Refusal::Heading);
+    }
+    Ok(Input::Call(dt, state, command))
 }
 
-// What the body of a kind says.
-pub fn decode(kind: InFlight, body: &[u8]) -> Read
+// What the body of a kind says. Each reader promises another part, so an enum picks it.
+#[tactic(auto, unfolding(crate::specs::Read::read))]
+pub fn decode(kind: InFlight, body: &[u8]) -> Result<Input, Refusal>
     requires { size (in_flight_layout kind) ≤ length body.now }
     ensures { result ≡ read kind body.now }
 {
     match kind {
         InFlight::Prime => read_prime(body),
         InFlight::Call(call) => read_call(call, body),
-        InFlight::Rate => Read::Refused(Refusal::Rate),
-        InFlight::Wind => Read::Input(Input::Wind),
+        InFlight::Rate => Err(Refusal::Rate),
+        InFlight::Wind => Ok(Input::Wind),
     }
 }

@@ -1,10 +1,13 @@
 // One record, from its bytes to its answer.
 ghost use Rattle.std.specs.Prelude.{◌≡◌};
-ghost use Rattle.records.specs.Step.{step, reported};
+ghost use Rattle.records.specs.Step.{judged, step, reported};
+ghost use Rattle.records.specs.Inner.{came};
 
 use crate::answer::{Answer, Refusal};
-use crate::craft::{Craft, Guidance};
+use crate::craft::Craft;
 use crate::kinds::Kind;
+use crate::turn::{Turned, start, turn};
+use crate::write::write_answer;
 use copter::memory::CopterGuidance;
 
 // What an answer may need.
@@ -19,7 +22,38 @@ pub struct Handled {
     pub written: usize,
 }
 
+// What a record comes to.
+#[tactic(auto, unfolding(crate::specs::Step::judged, crate::specs::Step::craft_after, crate::specs::Step::answer_of))]
+fn handle(craft: Craft, bytes: &[u8]) -> Turned<Craft>
+    ensures { result ≡ came craft (judged craft.guidance bytes.now) }
+{
+    let Some(g) = craft.guidance else {
+        return start(craft, bytes);
+    };
+    let Some((byte, rest)) = bytes.split_first() else {
+        return Turned::refused(craft, Refusal::Short, 0);
+    };
+    let Ok(kind) = Kind::try_from(*byte) else {
+        return start(craft, bytes);
+    };
+    let Kind::InFlight(in_flight) = kind else {
+        return start(craft, bytes);
+    };
+    let turned = turn(in_flight, g.config, g.memory, rest);
+    Turned {
+        kept: Craft {
+            guidance: Some(CopterGuidance {
+                config: g.config,
+                memory: turned.kept,
+            }),
+        },
+        answer: turned.answer,
+        taken: turned.taken,
+    }
+}
+
 // Handles one record: the bytes from its kind on, and the buffer that its answer is lent.
+#[tactic(auto, using(crate::proofs::Steps::written_step, crate::proofs::Steps::no_room))]
 pub fn record(craft: Craft, bytes: &[u8], out: &mut [u8]) -> Handled
     ensures { reported result out.new ≡ step craft bytes.now out.old }
 {
@@ -31,31 +65,11 @@ pub fn record(craft: Craft, bytes: &[u8], out: &mut [u8]) -> Handled
             written: 0,
         };
     }
-    if bytes.len() == 0 {
-        return crate::turn::refused(craft, Refusal::Short, 0, out);
-    }
-    let guidance = craft.guidance;
-    let Guidance::Configured(g) = guidance else {
-        return crate::turn::start(craft, bytes, out);
-    };
-    let kind = crate::kinds::kind_of(bytes[0]);
-    let Kind::InFlight(in_flight) = kind else {
-        return crate::turn::start(craft, bytes, out);
-    };
-    let config = g.config;
-    let memory = g.memory;
-    let turned = crate::turn::turn(in_flight, config, memory, bytes, out);
-    let after = turned.memory;
-    let answer = turned.answer;
+    let turned = handle(craft, bytes);
     Handled {
-        craft: Craft {
-            guidance: Guidance::Configured(CopterGuidance {
-                config,
-                memory: after,
-            }),
-        },
-        answer,
+        craft: turned.kept,
+        answer: turned.answer,
         taken: turned.taken,
-        written: turned.written,
+        written: write_answer(turned.answer, out),
     }
 }

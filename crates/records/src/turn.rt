@@ -1,23 +1,20 @@
-// A record decoded and performed: one in flight of a configured craft, by `turn`, and any other, by `start`.
-ghost use Rattle.std.specs.Prelude.{◌≡◌, false, ◌≤◌, length};
-ghost use Rattle.copter.specs.declared.config.CopterGuidanceConfig.{CopterGuidanceConfig};
+// A record decoded and performed. Its answer is not written here.
+ghost use Rattle.std.specs.Prelude.{◌≡◌, ◌≤◌, false, length, Some};
 ghost use Rattle.records.specs.declared.kinds.Kind.TheVariants as kinds;
-ghost use Rattle.copter.specs.Config.{field_count};
-ghost use Rattle.records.specs.Layout.{byte_at, numbers, size};
-ghost use Rattle.records.specs.Kinds.{kind_of};
-ghost use Rattle.records.specs.Read.{configuration};
-ghost use Rattle.records.specs.Step.{setpoint_answer, wind_answer, perform, configure, answer_room, answered, step, reported};
-ghost use Rattle.records.specs.Inner.{craft_of, judged_as, refused_taking, serves, turned};
+ghost use Rattle.records.specs.Layout.{byte_at, size};
+ghost use Rattle.records.specs.Kinds.{kind_of, in_flight_layout};
+ghost use Rattle.records.specs.Read.{read};
+ghost use Rattle.records.specs.Step.{setpoint_answer, wind_answer, perform, told, configure, with_body, judged};
+ghost use Rattle.records.specs.Inner.{guidance_of, craft_of, judged_as, refused, came, in_craft, serves};
 
 use crate::answer::{Answer, Refusal};
-use crate::craft::{Craft, Guidance};
+use crate::craft::Craft;
 use crate::kinds::{InFlight, Kind};
-use crate::read::{Configuration, Input, Read};
-use crate::step::Handled;
+use crate::read::{Input, decode, read_configuration};
 use copter::commands::{Flags, Setpoint};
 use copter::config::CopterGuidanceConfig;
 use copter::memory::{CopterGuidance, Memory};
-use wind::window::Filter;
+use wind::estimate::WindEstimate;
 
 // The memory after an input, and its answer.
 #[derive(Clone, Copy)]
@@ -26,16 +23,28 @@ pub struct Performed {
     pub answer: Answer,
 }
 
-// The memory after a record of a configured craft, the answer, and the bytes taken and written.
+// What is kept after a record, a configured craft's memory or a craft, its answer, and the bytes taken.
 #[derive(Clone, Copy)]
-pub struct Turned {
-    pub memory: Memory,
+pub struct Turned<T> {
+    pub kept: T,
     pub answer: Answer,
     pub taken: usize,
-    pub written: usize,
+}
+
+impl<T> Turned<T> {
+    pub fn refused(kept: T, refusal: Refusal, taken: usize) -> Turned<T>
+        ensures { result ≡ refused kept refusal taken }
+    {
+        Turned {
+            kept,
+            answer: Answer::Refused(refusal),
+            taken,
+        }
+    }
 }
 
 // A call's setpoint, with its flags.
+#[tactic(auto, unfolding(crate::specs::Step::setpoint_answer))]
 fn setpoint_answer(setpoint: Setpoint, flags: Flags) -> Answer
     ensures { result ≡ setpoint_answer setpoint flags }
 {
@@ -45,152 +54,126 @@ fn setpoint_answer(setpoint: Setpoint, flags: Flags) -> Answer
     }
 }
 
-fn wind_answer(reading: Filter) -> Answer
+#[tactic(auto, unfolding(crate::specs::Step::wind_answer))]
+fn wind_answer(reading: Option<WindEstimate>) -> Answer
     ensures { result ≡ wind_answer reading }
 {
-    let Filter::Estimate(estimate) = reading else {
-        return Answer::NoWind;
-    };
-    Answer::Wind(estimate)
+    match reading {
+        Some(estimate) => Answer::Wind(estimate),
+        None => Answer::NoWind,
+    }
 }
 
 // An input on a configured craft, which never refuses.
+#[tactic(auto, unfolding(crate::specs::Step::perform, crate::specs::Step::guided))]
 fn perform(g: CopterGuidance, input: Input) -> Performed
     ensures { result ≡ perform g input }
 {
     match input {
         Input::Prime(state) => {
             let primed = g.prime(state);
-            let memory = primed.memory;
-            let answer = Answer::Done;
-            Performed { memory, answer }
+            Performed {
+                memory: primed.memory,
+                answer: Answer::Done,
+            }
         }
         Input::Call(dt, state, command) => {
             let guided = g.guide(dt, state, command);
-            let craft = guided.craft;
-            let memory = craft.memory;
-            let setpoint = guided.setpoint;
-            let flags = guided.flags;
             Performed {
-                memory,
-                answer: setpoint_answer(setpoint, flags),
+                memory: guided.craft.memory,
+                answer: setpoint_answer(guided.setpoint, guided.flags),
             }
         }
-        Input::Wind => {
-            let memory = g.memory;
-            Performed {
-                memory,
-                answer: wind_answer(g.wind()),
-            }
-        }
+        Input::Wind => Performed {
+            memory: g.memory,
+            answer: wind_answer(g.wind()),
+        },
     }
 }
 
-// A refusal of a configured craft, written.
-fn kept(memory: Memory, refusal: Refusal, taken: usize, out: &mut [u8]) -> Turned
-    requires { answer_room ≤ length out.old }
-    ensures { (config : CopterGuidanceConfig) → turned config result out.new ≡ answered (craft_of config memory) (refused_taking refusal taken) out.old }
+// What the body of a kind in flight tells a configured craft.
+#[tactic(auto, unfolding(crate::specs::Step::told, crate::specs::Step::craft_after, crate::specs::Step::answer_of))]
+fn told(
+    kind: InFlight,
+    config: CopterGuidanceConfig,
+    memory: Memory,
+    body: &[u8],
+    taken: usize,
+) -> Turned<Memory>
+    requires { size (in_flight_layout kind) ≤ length body.now }
+    ensures { in_craft config result ≡ came (craft_of config memory) (judged_as (told (Some (guidance_of config memory)) (read kind body.now)) taken) }
 {
-    let written = crate::write::write_refusal(refusal, out);
-    Turned {
-        memory,
-        answer: Answer::Refused(refusal),
-        taken,
-        written,
+    match decode(kind, body) {
+        Err(refusal) => Turned::refused(memory, refusal, taken),
+        Ok(input) => {
+            let performed = perform(CopterGuidance { config, memory }, input);
+            Turned {
+                kept: performed.memory,
+                answer: performed.answer,
+                taken,
+            }
+        }
     }
 }
 
-// A record of a configured craft, of a kind that needs one.
+// A record of a kind in flight on a configured craft, from the bytes after its kind.
+#[tactic(auto, unfolding(crate::specs::Step::serve, crate::specs::Step::craft_after, crate::specs::Step::answer_of, crate::specs::Kinds::body_length))]
 pub fn turn(
     kind: InFlight,
     config: CopterGuidanceConfig,
     memory: Memory,
-    bytes: &[u8],
-    out: &mut [u8],
-) -> Turned
-    requires in_bounds { 1 ≤ length bytes.now }
-    requires answer_room_in_bounds { answer_room ≤ length out.old }
-    requires of_kind { kind_of (byte_at bytes.now 0) ≡ kinds.InFlight kind }
-    ensures { turned config result out.new ≡ step (craft_of config memory) bytes.now out.old }
+    rest: &[u8],
+) -> Turned<Memory>
+    ensures { in_craft config result ≡ came (craft_of config memory) (with_body (Some (kinds.InFlight kind)) (Some (guidance_of config memory)) rest.now) }
 {
-    let needed = crate::kinds::body_length(Kind::InFlight(kind));
-    if bytes.len() - 1 < needed {
-        return kept(memory, Refusal::Short, 0, out);
-    }
-    let end = needed + 1;
-    let read = crate::read::decode(kind, &bytes[1..end]);
-    match read {
-        Read::Refused(refusal) => kept(memory, refusal, end, out),
-        Read::Input(input) => {
-            let performed = perform(CopterGuidance { config, memory }, input);
-            let answer = performed.answer;
-            let after = performed.memory;
-            let written = crate::write::write_answer(answer, out);
-            Turned {
-                memory: after,
-                answer,
-                taken: end,
-                written,
-            }
-        }
-    }
+    let needed = Kind::InFlight(kind).body_length();
+    let Some(body) = rest.get(..needed) else {
+        return Turned::refused(memory, Refusal::Short, 0);
+    };
+    told(kind, config, memory, body, needed + 1)
 }
 
-// A refusal, written.
-pub fn refused(craft: Craft, refusal: Refusal, taken: usize, out: &mut [u8]) -> Handled
-    requires { answer_room ≤ length out.old }
-    ensures { reported result out.new ≡ answered craft (refused_taking refusal taken) out.old }
+// What a configure's body says, done.
+#[tactic(auto, unfolding(crate::specs::Step::configure, crate::specs::Step::craft_after, crate::specs::Step::answer_of))]
+fn configure(
+    craft: Craft,
+    read: Result<CopterGuidanceConfig, Refusal>,
+    taken: usize,
+) -> Turned<Craft>
+    ensures { result ≡ came craft (judged_as (configure read) taken) }
 {
-    let written = crate::write::write_refusal(refusal, out);
-    Handled {
-        craft,
-        answer: Answer::Refused(refusal),
-        taken,
-        written,
-    }
-}
-
-// A configure, over its body.
-fn configure(craft: Craft, body: &[u8], taken: usize, out: &mut [u8]) -> Handled
-    requires field_count_in_bounds { size (numbers field_count) ≤ length body.now }
-    requires answer_room_in_bounds { answer_room ≤ length out.old }
-    ensures { reported result out.new ≡ answered craft (judged_as (configure (configuration body.now)) taken) out.old }
-{
-    let read = crate::read::read_configuration(body);
     match read {
-        Configuration::Broken(field) => refused(craft, Refusal::Field(field), taken, out),
-        Configuration::Of(config) => {
-            let written = crate::write::write_done(out);
-            let fresh = CopterGuidance::new(config);
-            Handled {
-                craft: Craft {
-                    guidance: Guidance::Configured(fresh),
-                },
-                answer: Answer::Done,
-                taken,
-                written,
-            }
-        }
+        Err(refusal) => Turned::refused(craft, refusal, taken),
+        Ok(config) => Turned {
+            kept: Craft {
+                guidance: Some(CopterGuidance::new(config)),
+            },
+            answer: Answer::Done,
+            taken,
+        },
     }
 }
 
 // A record that `turn` does not serve: a configure, one of no known kind, and any before the first
 // accepted configure.
-pub fn start(craft: Craft, bytes: &[u8], out: &mut [u8]) -> Handled
-    requires in_bounds { 1 ≤ length bytes.now }
-    requires answer_room_in_bounds { answer_room ≤ length out.old }
-    requires of_kind { serves craft.guidance (kind_of (byte_at bytes.now 0)) ≡ false }
-    ensures { reported result out.new ≡ step craft bytes.now out.old }
+// One function for every record was tried and slower: a flight then calls what `turn` has inlined.
+#[tactic(auto, unfolding(crate::specs::Step::judged, crate::specs::Step::with_kind, crate::specs::Step::serve, crate::specs::Step::told, crate::specs::Step::craft_after, crate::specs::Step::answer_of, crate::specs::Kinds::body_length), using(crate::proofs::Steps::not_configured))]
+pub fn start(craft: Craft, bytes: &[u8]) -> Turned<Craft>
+    requires { serves craft.guidance (kind_of (byte_at bytes.now 0)) ≡ false }
+    ensures { result ≡ came craft (judged craft.guidance bytes.now) }
 {
-    let kind = crate::kinds::kind_of(bytes[0]);
-    let needed = crate::kinds::body_length(kind);
-    if bytes.len() - 1 < needed {
-        return refused(craft, Refusal::Short, 0, out);
-    }
-    let end = needed + 1;
+    let Some((byte, rest)) = bytes.split_first() else {
+        return Turned::refused(craft, Refusal::Short, 0);
+    };
+    let Ok(kind) = Kind::try_from(*byte) else {
+        return Turned::refused(craft, Refusal::Kind, 0);
+    };
+    let needed = kind.body_length();
+    let Some(body) = rest.get(..needed) else {
+        return Turned::refused(craft, Refusal::Short, 0);
+    };
     match kind {
-        Kind::Configure => configure(craft, &bytes[1..end], end, out),
-        Kind::InFlight(_) => refused(craft, Refusal::NotConfigured, end, out),
-        Kind::Unknown => refused(craft, Refusal::Kind, 0, out),
+        Kind::Configure => configure(craft, read_configuration(body), needed + 1),
+        Kind::InFlight(_) => Turned::refused(craft, Refusal::NotConfigured, needed + 1),
     }
 }

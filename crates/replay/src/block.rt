@@ -1,121 +1,131 @@
-// Entries in a block of bytes, and their answers in another. An entry is a byte with the function's
-// number and then the words that it takes; an answer is the words that it gives.
-ghost use Rattle.std.specs.Prelude.{◌≡◌, ◌+◌, ◌*◌, ◌≤◌, ◌<◌, length};
+// Entries in a block of bytes, and their answers. An entry is a byte with the function's number and
+// then the words that it takes; an answer is the words that it gives.
+ghost use Rattle.std.specs.Prelude.{◌≤◌, length, IfSome};
 
-use crate::words::{Counts, Given, Taken};
-use crate::{controllers_rs, copter_rs, heading_rs, leaves, math_rs, wind_rs, words};
+use crate::controllers_rs::{self, Controller};
+use crate::copter_rs::Tilt;
+use crate::entry::Entry;
+use crate::heading_rs::{self, Heading};
+use crate::leaves::Leaf;
+use crate::math_rs::Helper;
+use crate::wind_rs::{self, Wind};
+use buffers::{Buffer, Program};
 use heading::hover_wind::HoverWind;
+use std::io::Write;
+
+// Stands for a result that the Rust does not give, since it would panic.
+pub const NO_RESULT: u32 = 4294967295;
+
+// The bytes of a buffer of entries, and of one of answers.
+pub const BUFFER: usize = 65536;
+
+// The bytes of the longest answer.
+const LONGEST: usize = 80;
+
+pub type Answers = Buffer<BUFFER>;
+
+#[derive(Clone, Copy)]
+enum Function {
+    Leaf(Leaf),
+    Helper(Helper),
+    Controller(Controller),
+    Wind(Wind),
+    Heading(Heading),
+    Tilt(Tilt),
+}
+
+impl Function {
+    // Each layer has twenty numbers.
+    fn of(number: u8) -> Option<Function> {
+        match number / 20 {
+            0 => Leaf::of(number).map(Function::Leaf),
+            1 => Helper::of(number).map(Function::Helper),
+            2 => Controller::of(number).map(Function::Controller),
+            3 => Wind::of(number).map(Function::Wind),
+            4 => Heading::of(number).map(Function::Heading),
+            _ => Tilt::of(number).map(Function::Tilt),
+        }
+    }
+
+    // How many bytes of words it takes.
+    fn length(self) -> usize {
+        let words = match self {
+            Function::Leaf(leaf) => leaf.words(),
+            Function::Helper(helper) => helper.words(),
+            Function::Controller(controller) => controller.words(),
+            Function::Wind(wind) => wind.words(),
+            Function::Heading(heading) => heading.words(),
+            Function::Tilt(tilt) => tilt.words(),
+        };
+        4 * usize::from(words)
+    }
+}
 
 // What the functions with memory keep from entry to entry.
 #[derive(Clone, Copy)]
-pub struct Memory {
-    pub controllers: controllers_rs::Memory,
-    pub wind: HoverWind,
-    pub headings: heading_rs::Memory,
+pub struct Replay {
+    controllers: controllers_rs::Memory,
+    wind: HoverWind,
+    headings: heading_rs::Memory,
 }
 
-// The memory after some entries, the bytes that they took and the bytes of their answers.
-#[derive(Clone, Copy)]
-pub struct Progress {
-    pub memory: Memory,
-    pub used: usize,
-    pub written: usize,
-}
-
-impl Memory {
-    pub fn new() -> Memory {
-        Memory {
+impl Replay {
+    pub fn new() -> Replay {
+        Replay {
             controllers: controllers_rs::Memory::new(),
             wind: HoverWind::new(),
             headings: heading_rs::Memory::new(),
         }
     }
 
-    fn answer(self, function: u8, w: &Taken, out: &mut Given) -> Memory {
-        let mut controllers = self.controllers;
-        let mut wind = self.wind;
-        let mut headings = self.headings;
-        match function / 20 {
-            0 => leaves::answer(function, w, out),
-            1 => math_rs::answer(function, w, out),
-            2 => controllers = controllers.answer(function, w, out),
-            3 => wind = wind_rs::answer(wind, function, w, out),
-            4 => headings = headings.answer(function, w, out),
-            _ => copter_rs::answer(function, w, out),
+    fn answer(&mut self, function: Function, entry: &mut Entry<'_>, out: &mut Answers) {
+        match function {
+            Function::Leaf(leaf) => leaf.answer(entry, out),
+            Function::Helper(helper) => helper.answer(entry, out),
+            Function::Controller(controller) => self.controllers.answer(controller, entry, out),
+            Function::Wind(wind) => wind_rs::answer(&mut self.wind, wind, entry, out),
+            Function::Heading(heading) => self.headings.answer(heading, entry, out),
+            Function::Tilt(tilt) => tilt.answer(entry, out),
         }
-        Memory {
-            controllers,
-            wind,
-            headings,
+    }
+
+    // Answers the entry that `bytes` starts with, and gives the count of bytes that it takes. None
+    // where it is cut, has no known number or has no room for its answer.
+    fn entry(&mut self, bytes: &[u8], out: &mut Answers) -> Option<usize>
+        ensures { IfSome result (λ taken. (1 ≤ taken) × (taken ≤ length bytes.now)) }
+    {
+        let (number, words) = bytes.split_first()?;
+        let function = Function::of(*number)?;
+        let length = function.length();
+        if words.len() < length || out.room() < LONGEST {
+            return None;
         }
+        let mut entry = Entry {
+            left: &words[..length],
+        };
+        self.answer(function, &mut entry, out);
+        Some(1 + length)
+    }
+
+    // Answers the entries in order, up to one that is not answered, and gives the count of bytes that
+    // they take.
+    fn entries(&mut self, bytes: &[u8], out: &mut Answers) -> usize
+        ensures { result ≤ length bytes.now }
+    {
+        let mut taken = 0;
+        while let Some(more) = self.entry(&bytes[taken..], out) {
+            taken += more;
+        }
+        taken
     }
 }
 
-// Each layer has twenty numbers.
-fn counts(function: u8) -> Counts
-    ensures { (result.0 ≤ 40) × (result.1 ≤ 20) }
-{
-    match function / 20 {
-        0 => leaves::counts(function),
-        1 => math_rs::counts(function),
-        2 => controllers_rs::counts(function),
-        3 => wind_rs::counts(function),
-        4 => heading_rs::counts(function),
-        _ => copter_rs::counts(function),
-    }
-}
-
-// Answers the entry at `at`, whose counts are given, and puts the answer at `to`.
-fn answered(
-    memory: Memory,
-    counts: Counts,
-    input: &[u8],
-    at: usize,
-    output: &mut [u8],
-    to: usize,
-) -> Memory
-    requires { (counts.0 ≤ 40) × ((counts.1 ≤ 20) × ((at + 4 * counts.0 < length input.now) × (to + 4 * counts.1 ≤ length output.old))) }
-    ensures { length output.new ≡ length output.old }
-{
-    let words = words::load(input, at + 1, counts.0);
-    let mut answer = [0u32; 20];
-    let function = input[at];
-    let after = memory.answer(function, &words, &mut answer);
-    words::store(&answer, counts.1, output, to);
-    after
-}
-
-// Answers the entries in the first `end` bytes of `input`, in order, up to one that is cut, has no
-// known number or whose answer does not fit.
-pub fn replay(before: Memory, input: &[u8], end: usize, output: &mut [u8]) -> Progress
-    requires { end ≤ length input.now }
-    ensures { (result.used ≤ end) × (result.written ≤ length output.new) }
-{
-    let mut memory = before;
-    let mut used = 0;
-    let mut written = 0;
-    while used < end {
-        let counts = counts(input[used]);
-        let taken = counts.0;
-        let given = counts.1;
-        if taken == 0 {
-            break;
-        }
-        if end - used <= 4 * taken {
-            break;
-        }
-        if output.len() - written < 4 * given {
-            break;
-        }
-        let next = used + 1 + 4 * taken;
-        let full = written + 4 * given;
-        memory = answered(memory, counts, input, used, output, written);
-        used = next;
-        written = full;
-    }
-    Progress {
-        memory,
-        used,
-        written,
+// A turn answers the entries that are whole. The last is one that answers none.
+impl Program for Replay {
+    fn turn<W: Write>(&mut self, held: &[u8], _ended: bool, writer: &mut W) -> Option<usize> {
+        let mut answers: Answers = Buffer::new();
+        let taken = self.entries(held, &mut answers);
+        writer.write_all(answers.held()).ok()?;
+        (taken > 0).then_some(taken)
     }
 }

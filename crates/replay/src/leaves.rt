@@ -1,51 +1,90 @@
 // The float leaves, numbered from 0.
-ghost use Rattle.std.specs.Prelude.{◌≤◌};
+use crate::block::{Answers, NO_RESULT};
+use crate::entry::Entry;
+use words::Words;
 
-use crate::words::{Counts, Given, NO_RESULT, Taken, bits, float};
+#[derive(Clone, Copy)]
+pub enum Leaf {
+    Sqrt,
+    Sin,
+    Cos,
+    Atan,
+    Atan2,
+    Abs,
+    Signum,
+    Min,
+    Max,
+    Rem,
+    IsFinite,
+    IsNan,
+    Clamp,
+    Narrow,
+}
 
-pub fn counts(function: u8) -> Counts
-    ensures { (result.0 ≤ 40) × (result.1 ≤ 20) }
-{
-    match function {
-        0 | 1 | 2 | 3 | 5 | 6 | 10 | 11 => Counts(1, 1),
-        4 | 7 | 8 | 9 | 13 => Counts(2, 1),
-        12 => Counts(3, 1),
-        _ => Counts(0, 0),
+impl Leaf {
+    pub fn of(number: u8) -> Option<Leaf> {
+        Some(match number {
+            0 => Leaf::Sqrt,
+            1 => Leaf::Sin,
+            2 => Leaf::Cos,
+            3 => Leaf::Atan,
+            4 => Leaf::Atan2,
+            5 => Leaf::Abs,
+            6 => Leaf::Signum,
+            7 => Leaf::Min,
+            8 => Leaf::Max,
+            9 => Leaf::Rem,
+            10 => Leaf::IsFinite,
+            11 => Leaf::IsNan,
+            12 => Leaf::Clamp,
+            13 => Leaf::Narrow,
+            _ => return None,
+        })
+    }
+
+    pub fn words(self) -> u8 {
+        match self {
+            Leaf::Atan2 | Leaf::Min | Leaf::Max | Leaf::Rem | Leaf::Narrow => 2,
+            Leaf::Clamp => 3,
+            _ => 1,
+        }
+    }
+
+    pub fn answer(self, entry: &mut Entry<'_>, out: &mut Answers) {
+        if let Leaf::Narrow = self {
+            let (low, high) = entry.take();
+            floats::narrow::narrow(wide_float(low, high)).put(out);
+            return;
+        }
+        let (x, y, z) = entry.take();
+        match self {
+            Leaf::Sqrt => floats::sqrt::sqrtf(x).put(out),
+            Leaf::Sin => floats::sin_cos::sinf(x).put(out),
+            Leaf::Cos => floats::sin_cos::cosf(x).put(out),
+            Leaf::Atan => floats::atan::atanf(x).put(out),
+            Leaf::Atan2 => floats::atan::atan2f(x, y).put(out),
+            Leaf::Abs => floats::compare::abs(x).put(out),
+            Leaf::Signum => floats::compare::signum(x).put(out),
+            Leaf::Min => floats::minmax::min(x, y).put(out),
+            Leaf::Max => floats::minmax::max(x, y).put(out),
+            Leaf::Rem => floats::rem::rem(x, y).put(out),
+            Leaf::IsFinite => truth(floats::compare::is_finite(x)).put(out),
+            Leaf::IsNan => truth(floats::compare::is_nan(x)).put(out),
+            _ => clamp(x, y, z, out),
+        }
     }
 }
 
-pub fn answer(function: u8, w: &Taken, out: &mut Given) {
-    let x = float(w[0]);
-    let y = float(w[1]);
-    out[0] = match function {
-        0 => bits(floats::sqrt::sqrtf(x)),
-        1 => bits(floats::sin_cos::sinf(x)),
-        2 => bits(floats::sin_cos::cosf(x)),
-        3 => bits(floats::atan::atanf(x)),
-        4 => bits(floats::atan::atan2f(x, y)),
-        5 => bits(floats::compare::abs(x)),
-        6 => bits(floats::compare::signum(x)),
-        7 => bits(floats::minmax::min(x, y)),
-        8 => bits(floats::minmax::max(x, y)),
-        9 => bits(floats::rem::rem(x, y)),
-        10 => truth(floats::compare::is_finite(x)),
-        11 => truth(floats::compare::is_nan(x)),
-        12 => clamp(x, y, float(w[2])),
-        _ => bits(floats::narrow::narrow(wide_float(w[0], w[1]))),
-    };
-}
-
-// The word of 1.0 or of 0.0.
-fn truth(b: bool) -> u32 {
-    if b { bits(1.0) } else { bits(0.0) }
+fn truth(b: bool) -> f32 {
+    if b { 1.0 } else { 0.0 }
 }
 
 // The Rust panics unless the bounds are in order.
-fn clamp(x: f32, low: f32, high: f32) -> u32 {
+fn clamp(x: f32, low: f32, high: f32, out: &mut Answers) {
     if low <= high {
-        bits(floats::minmax::clamp(x, low, high))
+        floats::minmax::clamp(x, low, high).put(out);
     } else {
-        NO_RESULT
+        NO_RESULT.put(out);
     }
 }
 

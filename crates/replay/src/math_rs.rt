@@ -1,63 +1,77 @@
 // The helpers of math.rs, numbered from 20.
-ghost use Rattle.std.specs.Prelude.{◌≤◌};
+use crate::block::Answers;
+use crate::entry::Entry;
+use words::Words;
 
-use crate::words::{Counts, Given, Taken, attitude, bits, float, put_some, put_vec2, vec2, vec3};
-use math::SinkGuard;
+#[derive(Clone, Copy)]
+pub enum Helper {
+    WrapAngle,
+    CapMagnitude,
+    SaturateUnit,
+    SaturateThrottle,
+    SaturateSymmetric,
+    ClampSymmetric,
+    LimitOrZero,
+    NeuToNed,
+    TiltBoost,
+    GuardSink,
+    ShapedClosingSpeed,
+}
 
-pub fn counts(function: u8) -> Counts
-    ensures { (result.0 ≤ 40) × (result.1 ≤ 20) }
-{
-    match function {
-        20 | 22 | 23 | 26 => Counts(1, 1),
-        24 | 25 => Counts(2, 1),
-        21 => Counts(3, 2),
-        27 => Counts(3, 3),
-        28 => Counts(4, 1),
-        29 => Counts(4, 2),
-        30 => Counts(3, 1),
-        _ => Counts(0, 0),
+impl Helper {
+    pub fn of(number: u8) -> Option<Helper> {
+        Some(match number {
+            20 => Helper::WrapAngle,
+            21 => Helper::CapMagnitude,
+            22 => Helper::SaturateUnit,
+            23 => Helper::SaturateThrottle,
+            24 => Helper::SaturateSymmetric,
+            25 => Helper::ClampSymmetric,
+            26 => Helper::LimitOrZero,
+            27 => Helper::NeuToNed,
+            28 => Helper::TiltBoost,
+            29 => Helper::GuardSink,
+            30 => Helper::ShapedClosingSpeed,
+            _ => return None,
+        })
     }
-}
 
-pub fn answer(function: u8, w: &Taken, out: &mut Given) {
-    match function {
-        21 => cap_magnitude(w, out),
-        27 => neu_to_ned(w, out),
-        29 => guard_sink(w, out),
-        _ => out[0] = bits(number(function, w)),
+    pub fn words(self) -> u8 {
+        match self {
+            Helper::SaturateSymmetric | Helper::ClampSymmetric => 2,
+            Helper::CapMagnitude | Helper::NeuToNed | Helper::ShapedClosingSpeed => 3,
+            Helper::TiltBoost | Helper::GuardSink => 4,
+            _ => 1,
+        }
     }
-}
 
-// The functions that give one float.
-fn number(function: u8, w: &Taken) -> f32 {
-    let x = float(w[0]);
-    match function {
-        20 => math::wrap_angle(x),
-        22 => math::saturate_unit(x),
-        23 => math::saturate_throttle(x),
-        24 => math::saturate_symmetric(x, float(w[1])),
-        25 => math::clamp_symmetric(x, float(w[1])),
-        26 => math::limit_or_zero(x),
-        28 => math::tilt_boost(attitude(w[0], w[1], w[2], w[3])),
-        _ => math::shaped_closing_speed(x, float(w[1]), float(w[2])),
+    pub fn answer(self, entry: &mut Entry<'_>, out: &mut Answers) {
+        match self {
+            Helper::CapMagnitude => {
+                let (v, cap) = entry.take();
+                math::cap_magnitude(v, cap).put(out);
+            }
+            Helper::NeuToNed => math::neu_to_ned(entry.take()).put(out),
+            Helper::TiltBoost => math::tilt_boost(entry.take()).put(out),
+            Helper::GuardSink => {
+                let (thrust, climb_mps, limit_mps, gain) = entry.take();
+                math::guard_sink(thrust, climb_mps, limit_mps, gain).put(out);
+            }
+            _ => self.of_floats(entry).put(out),
+        }
     }
-}
 
-fn cap_magnitude(w: &Taken, out: &mut Given) {
-    let capped = math::cap_magnitude(vec2(w[0], w[1]), float(w[2]));
-    put_vec2(out, 0, capped);
-}
-
-fn neu_to_ned(w: &Taken, out: &mut Given) {
-    let ned = math::neu_to_ned(vec3(w[0], w[1], w[2]));
-    out[0] = bits(ned.x);
-    out[1] = bits(ned.y);
-    out[2] = bits(ned.z);
-}
-
-fn guard_sink(w: &Taken, out: &mut Given) {
-    let guarded = math::guard_sink(float(w[0]), float(w[1]), float(w[2]), float(w[3]));
-    if let SinkGuard::Raised(thrust) = guarded {
-        put_some(out, 0, thrust);
+    // The helpers from floats to a float.
+    fn of_floats(self, entry: &mut Entry<'_>) -> f32 {
+        let (x, y, z) = entry.take();
+        match self {
+            Helper::WrapAngle => math::wrap_angle(x),
+            Helper::SaturateUnit => math::saturate_unit(x),
+            Helper::SaturateThrottle => math::saturate_throttle(x),
+            Helper::SaturateSymmetric => math::saturate_symmetric(x, y),
+            Helper::ClampSymmetric => math::clamp_symmetric(x, y),
+            Helper::LimitOrZero => math::limit_or_zero(x),
+            _ => math::shaped_closing_speed(x, y, z),
+        }
     }
 }

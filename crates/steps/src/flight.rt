@@ -1,42 +1,35 @@
 // A flight: record after record, and the craft's memory.
 ghost use Rattle.std.specs.Prelude.{◌≡◌, ◌≤◌, length};
+ghost use Rattle.steps.specs.Turn.{flags_after, outcome, after_record, Turned};
 
-use crate::{memory, words};
+use crate::memory;
+use buffers::Program;
 use copter::commands::Flags;
 use records::answer::Answer;
 use records::craft::Craft;
+use std::io::Write;
+
+const NO_FLAGS: Flags = Flags {
+    tilt: false,
+    thrust: false,
+    idle: false,
+};
 
 // The craft, and the flags that the Rust keeps in it.
 #[derive(Clone, Copy)]
 pub struct Flight {
-    pub craft: Craft,
-    pub flags: Flags,
-}
-
-// The flight after a record, and the bytes that the record took.
-#[derive(Clone, Copy)]
-pub struct Stepped {
-    pub flight: Flight,
-    pub taken: usize,
-}
-
-fn no_flags() -> Flags {
-    Flags {
-        tilt: false,
-        thrust: false,
-        idle: false,
-    }
+    craft: Craft,
+    flags: Flags,
 }
 
 // A call sets the flags, a configure and a priming clear them, and every other record leaves them.
-fn flags_after(before: Flags, answer: Answer) -> Flags {
+fn flags_after(before: Flags, answer: Answer) -> Flags
+    ensures { result ≡ flags_after before answer }
+{
     match answer {
-        Answer::Attitude(_, flags) => flags,
-        Answer::BodyRate(_, flags) => flags,
-        Answer::Done => no_flags(),
-        Answer::Refused(_) => before,
-        Answer::NoWind => before,
-        Answer::Wind(_) => before,
+        Answer::Attitude(_, flags) | Answer::BodyRate(_, flags) => flags,
+        Answer::Done => NO_FLAGS,
+        Answer::Refused(_) | Answer::NoWind | Answer::Wind(_) => before,
     }
 }
 
@@ -44,32 +37,37 @@ impl Flight {
     pub fn new() -> Flight {
         Flight {
             craft: Craft::new(),
-            flags: no_flags(),
+            flags: NO_FLAGS,
         }
     }
 
-    // Handles the record that `bytes` starts with. What its answer's bytes are does not matter here.
-    pub fn step(self, bytes: &[u8]) -> Stepped
-        ensures { result.taken ≤ length bytes.now }
+    // Handles the record that `bytes` starts with, and gives the count of bytes that it took. What its
+    // answer's bytes are does not matter here.
+    fn step(&mut self, bytes: &[u8]) -> usize
+        ensures taken { result ≡ (outcome self.old bytes.now).taken }
+        ensures within { result ≤ length bytes.now }
+        ensures after { self.new ≡ after_record self.old bytes.now }
     {
         let mut buffer = [0u8; 32];
         let handled = records::step::record(self.craft, bytes, &mut buffer);
-        let answer = handled.answer;
-        let craft = handled.craft;
-        Stepped {
-            flight: Flight {
-                craft,
-                flags: flags_after(self.flags, answer),
-            },
-            taken: handled.taken,
-        }
+        self.craft = handled.craft;
+        self.flags = flags_after(self.flags, handled.answer);
+        handled.taken
     }
+}
 
-    // The bytes of the craft's memory.
-    pub fn memory(self) -> [u8; 252]
-        ensures { 252 ≡ length result }
-    {
-        let words = memory::words(self.craft, self.flags);
-        words::bytes_of(&words)
+// A turn is a record. One that takes no byte has an unknown kind or is cut short, and ends the flight.
+impl Program for Flight {
+    ghost turned = { Turned };
+
+    fn turn<W: Write>(&mut self, held: &[u8], _ended: bool, writer: &mut W) -> Option<usize> {
+        if held.is_empty() {
+            return None;
+        }
+        let taken = self.step(held);
+        writer
+            .write_all(&memory::bytes(self.craft, self.flags))
+            .ok()?;
+        (taken > 0).then_some(taken)
     }
 }

@@ -9,7 +9,6 @@ use Rattle.floats.specs.MinMax.{max}
 use Rattle.math.specs.Math.{zero}
 use Rattle.wind.specs.declared.drag.AxisDrag.{AxisDrag}
 use Rattle.wind.specs.declared.drag.AirVelocity.{AirVelocity}
-use Rattle.wind.specs.declared.drag.AirVelocity.TheVariants.{Unknown, Along}
 use Rattle.wind.specs.declared.drag.Step.{Step}
 use Rattle.wind.specs.Drag.{slope, still_air, newton_step, against}
 use Rattle.wind.specs.Wind.{min_drag_slope}
@@ -23,19 +22,22 @@ three_steps axis wanted axial speed =
     let third = refined (refined (refined speed)) in
     record { speed = third; slope_per_s = slope axis third axial }
 
+abbrev pub along : Float → Float → AirVelocity
+along air rise = record { along_mps = air; slope_per_s = rise }
+
 -- the air velocity that a force tells, and the slope there
-unfoldable pub air_and_slope : AxisDrag → Float → Float → AirVelocity
+unfoldable pub air_and_slope : AxisDrag → Float → Float → Option AirVelocity
 air_and_slope axis force axial =
     let first = newton_step axis (abs force) axial (still_air axis (abs force)) in
     let fourth = three_steps axis (abs force) axial first in
     let air = against force (abs force ⊘ axis.mu_per_s) in
-    cond (lt zero axis.k_per_m) (Along (against force fourth.speed) fourth.slope_per_s)
-    (cond (lt zero axis.mu_per_s) (Along air (slope axis air axial)) Unknown)
+    cond (lt zero axis.k_per_m) (Some (along (against force fourth.speed) fourth.slope_per_s))
+    (cond (lt zero axis.mu_per_s) (Some (along air (slope axis air axial))) None)
 
 -- an air velocity or none, with the slope there
-unfoldable pub with_slope : AxisDrag → Float → Option Float → AirVelocity
-with_slope axis axial None = Unknown
-with_slope axis axial (Some air) = Along air (slope axis air axial)
+unfoldable pub with_slope : AxisDrag → Float → Option Float → Option AirVelocity
+with_slope axis axial None = None
+with_slope axis axial (Some air) = Some (along air (slope axis air axial))
 
 -- the noise of the wind along an axis, where `rise` is the slope at the measured air velocity
 unfoldable pub noise_by_slope : Float → AxisDrag → Float → Float → Float → Float

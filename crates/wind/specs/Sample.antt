@@ -1,18 +1,17 @@
 -- What one call tells of the air, from `Sample` of wind.rs, with the rotation as document 01 writes its rows. Assumes nothing.
-use Rattle.std.specs.Prelude.{ℕ, Bool, cond, ◌&&◌, List, [], ◌∷◌, slice_index_or, Float}
+use Rattle.std.specs.Prelude.{ℕ, Bool, cond, ◌&&◌, List, [], ◌∷◌, slice_index_or, Float, None, Option, Some}
 use Rattle.std.specs.Float.{nan}
 use Rattle.std.specs.Float.Ieee.{neg, lt}
 use Rattle.std.specs.Float.Ieee.Scale.{finite}
-use Rattle.floats.specs.Ops.{f32, ◌⊕◌, ◌⊖◌, ◌⊗◌}
+use Rattle.floats.specs.Ops.{f32, ◌⊕◌, ◌⊖◌, ◌⊗◌, ◌⊘◌}
 use Rattle.floats.specs.Compare.{abs}
-use Rattle.math.specs.Math.{two, gravity, all_finite, neu_to_ned}
+use Rattle.math.specs.Math.{zero, two, gravity, all_finite, neu_to_ned}
+use Rattle.math.specs.Vectors.{zeros, plus, over}
 use Rattle.math.specs.declared.vectors.Vec3.{Vec3}
 use Rattle.math.specs.declared.vectors.Quaternion.{Quaternion}
 use Rattle.wind.specs.declared.state.VehicleState.{VehicleState}
 use Rattle.wind.specs.declared.sample.BodyAxes.{BodyAxes}
 use Rattle.wind.specs.declared.sample.Sample.{Sample}
-use Rattle.wind.specs.declared.sample.Sampled.{Sampled}
-use Rattle.wind.specs.declared.sample.Sampled.TheVariants.{Nothing, Taken}
 
 -- ---- the rotation
 
@@ -77,10 +76,37 @@ along axes state =
       axial_mps = dot3 axes.z velocity;
     }
 
+-- ---- sums of samples
+
+abbrev pub zero_sample : Sample
+zero_sample = record { specific_force_mps2 = zeros; ground_along_mps = zeros; axis_x = zeros; axis_y = zeros; axial_mps = zero }
+
+abbrev pub sample_sum : Sample → Sample → Sample
+sample_sum a b =
+    record {
+      specific_force_mps2 = plus a.specific_force_mps2 b.specific_force_mps2;
+      ground_along_mps = plus a.ground_along_mps b.ground_along_mps;
+      axis_x = plus a.axis_x b.axis_x;
+      axis_y = plus a.axis_y b.axis_y;
+      axial_mps = a.axial_mps ⊕ b.axial_mps;
+    }
+
+abbrev pub sample_over : Sample → Float → Sample
+sample_over sample n =
+    record {
+      specific_force_mps2 = over sample.specific_force_mps2 n;
+      ground_along_mps = over sample.ground_along_mps n;
+      axis_x = over sample.axis_x n;
+      axis_y = over sample.axis_y n;
+      axial_mps = sample.axial_mps ⊘ n;
+    }
+
+-- ---- when a state gives one
+
 -- None where the craft is tilted past 45°, or faster along the thrust axis than the limit, or a number is not finite.
-unfoldable pub from_state : VehicleState → Float → Sampled
+unfoldable pub from_state : VehicleState → Float → Option Sample
 from_state state max_axial_speed =
     let axes = body_axes state.attitude in
     let sample = along axes state in
-    cond (lt axes.z.z min_tilt_cosine) Nothing
-    (cond (lt max_axial_speed (abs sample.axial_mps)) Nothing (cond (sample_finite sample) (Taken sample) Nothing))
+    cond (lt axes.z.z min_tilt_cosine) None
+    (cond (lt max_axial_speed (abs sample.axial_mps)) None (cond (sample_finite sample) (Some sample) None))

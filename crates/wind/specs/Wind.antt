@@ -5,23 +5,19 @@ use Rattle.std.specs.Float.Ieee.{of_int, lt}
 use Rattle.floats.specs.Ops.{f32, ◌⊕◌, ◌⊖◌, ◌⊗◌, ◌⊘◌}
 use Rattle.floats.specs.MinMax.{max}
 use Rattle.math.specs.Math.{zero}
-use Rattle.math.specs.Vectors.{zeros, plus, over, dot}
+use Rattle.math.specs.Vectors.{dot}
 use Rattle.math.specs.declared.vectors.Vec2.{Vec2}
 use Rattle.wind.specs.declared.state.VehicleState.{VehicleState}
 use Rattle.wind.specs.declared.drag.WindConfig.{WindConfig}
 use Rattle.wind.specs.declared.drag.AxisDrag.{AxisDrag}
 use Rattle.wind.specs.declared.estimate.WindEstimate.{WindEstimate}
 use Rattle.wind.specs.declared.sample.Sample.{Sample}
-use Rattle.wind.specs.declared.sample.Sampled.{Sampled}
-use Rattle.wind.specs.declared.sample.Sampled.TheVariants as sampled
 use Rattle.wind.specs.declared.window.Window.{Window}
 use Rattle.wind.specs.declared.window.Measured.{Measured}
-use Rattle.wind.specs.declared.window.Filter.{Filter}
-use Rattle.wind.specs.declared.window.Filter.TheVariants as filters
 use Rattle.wind.specs.declared.window.WindEstimator.{WindEstimator}
 use Rattle.wind.specs.Drag.{is_on, axis_drag, slope, air_velocity}
 use Rattle.wind.specs.Estimate.{initial, predict, correct}
-use Rattle.wind.specs.Sample.{from_state}
+use Rattle.wind.specs.Sample.{zero_sample, sample_sum, sample_over, from_state}
 
 -- ---- the window
 
@@ -34,48 +30,23 @@ abbrev pub min_drag_slope : Float
 min_drag_slope = f32 0x3A83_126F
 
 unfoldable pub empty : Window
-empty =
-    record {
-      elapsed_s = zero;
-      ticks = 0;
-      specific_force_mps2 = zeros;
-      ground_along_mps = zeros;
-      axis_x = zeros;
-      axis_y = zeros;
-      axial_mps = zero;
-    }
+empty = record { elapsed_s = zero; ticks = 0; sums = zero_sample }
 
 -- with one sample more; the count is a `u32`
 unfoldable pub grown : Window → Float → Sample → Window
 grown window dt sample =
-    record {
-      elapsed_s = window.elapsed_s ⊕ dt;
-      ticks = (window.ticks + 1) % 2 ^ 32;
-      specific_force_mps2 = plus window.specific_force_mps2 sample.specific_force_mps2;
-      ground_along_mps = plus window.ground_along_mps sample.ground_along_mps;
-      axis_x = plus window.axis_x sample.axis_x;
-      axis_y = plus window.axis_y sample.axis_y;
-      axial_mps = window.axial_mps ⊕ sample.axial_mps;
-    }
+    record { elapsed_s = window.elapsed_s ⊕ dt; ticks = (window.ticks + 1) % 2 ^ 32; sums = sample_sum window.sums sample }
 
 -- the mean of the samples
 unfoldable pub mean : Window → Sample
-mean window =
-    let n = of_int binary32 (pos window.ticks) in
-    record {
-      specific_force_mps2 = over window.specific_force_mps2 n;
-      ground_along_mps = over window.ground_along_mps n;
-      axis_x = over window.axis_x n;
-      axis_y = over window.axis_y n;
-      axial_mps = window.axial_mps ⊘ n;
-    }
+mean window = sample_over window.sums (of_int binary32 (pos window.ticks))
 
 -- ---- a window that closes
 
 -- the estimate so far, or the initial one
-unfoldable pub filter_or : Filter → WindConfig → WindEstimate
-filter_or filters.Nothing config = initial config
-filter_or (filters.Estimate estimate) config = estimate
+unfoldable pub filter_or : Option WindEstimate → WindConfig → WindEstimate
+filter_or None config = initial config
+filter_or (Some estimate) config = estimate
 
 -- the noise of the wind along an axis: the force's over the drag's slope, the steeper of that at the predicted and that at the measured air velocity
 unfoldable pub noise : Float → AxisDrag → Float → Float → Float → Float
@@ -100,7 +71,7 @@ abbrev measured : Float → Float → Float → Measured
 measured force ground_speed axial = record { force_mps2 = force; ground_mps = ground_speed; axial_mps = axial }
 
 -- one axis after the other
-unfoldable pub closed : Filter → WindConfig → Window → WindEstimate
+unfoldable pub closed : Option WindEstimate → WindConfig → Window → WindEstimate
 closed filter config window =
     let sample = mean window in
     let predicted = predict (filter_or filter config) window.elapsed_s config in
@@ -114,18 +85,18 @@ closed filter config window =
 -- ---- the estimator
 
 unfoldable pub fresh : WindEstimator
-fresh = record { filter = filters.Nothing; window = empty }
+fresh = record { filter = None; window = empty }
 
 -- With one sample more. The window closes once it is 0.2 s long.
 unfoldable pub gathered : WindEstimator → Float → WindConfig → Sample → WindEstimator
 gathered self dt config sample =
     let window = grown self.window dt sample in
     cond (lt window.elapsed_s update_period) (record { filter = self.filter; window = window })
-    (record { filter = filters.Estimate (closed self.filter config window); window = empty })
+    (record { filter = Some (closed self.filter config window); window = empty })
 
-unfoldable pub taken : Sampled → WindEstimator → Float → WindConfig → WindEstimator
-taken sampled.Nothing self dt config = self
-taken (sampled.Taken sample) self dt config = gathered self dt config sample
+unfoldable pub taken : Option Sample → WindEstimator → Float → WindConfig → WindEstimator
+taken None self dt config = self
+taken (Some sample) self dt config = gathered self dt config sample
 
 -- with no drag coefficient nothing changes
 unfoldable pub update : WindEstimator → Float → WindConfig → VehicleState → WindEstimator

@@ -1,6 +1,6 @@
 -- When a window closes: document 01's "A wind window closes after at most 820 accepted samples, a number reached at dt 1/4,096", as the type
 -- `WindowCloses`. proofs/Laws/Window.antt proves it. Assumes nothing.
-use Rattle.std.specs.Prelude.{◌≡◌, ℕ, ◌+◌, ◌<◌, ◌≤◌, true, false, T, List, [], ◌∷◌, length, take, pos, Float}
+use Rattle.std.specs.Prelude.{◌≡◌, ℕ, ◌+◌, ◌<◌, ◌≤◌, true, false, T, List, [], ◌∷◌, length, take, pos, Float, None, Some}
 use Rattle.std.specs.Float.{binary32}
 use Rattle.std.specs.Float.Ieee.{of_int, round, lt, le}
 use Rattle.std.specs.Float.Ieee.Exact.{HasValue}
@@ -10,9 +10,7 @@ use Rattle.controllers.specs.RateDivider.{shortest, Accepted}
 use Rattle.wind.specs.declared.state.VehicleState.{VehicleState}
 use Rattle.wind.specs.declared.drag.WindConfig.{WindConfig}
 use Rattle.wind.specs.declared.sample.Sample.{Sample}
-use Rattle.wind.specs.declared.sample.Sampled.TheVariants.{Nothing, Taken}
 use Rattle.wind.specs.declared.window.Window.{Window}
-use Rattle.wind.specs.declared.window.Filter.TheVariants.{Estimate}
 use Rattle.wind.specs.declared.window.WindEstimator.{WindEstimator}
 use Rattle.wind.specs.Drag.{is_on}
 use Rattle.wind.specs.Sample.{from_state}
@@ -47,7 +45,7 @@ pub data Updated (self : WindEstimator) (config : WindConfig) : WindEstimator �
   unchanged : Updated self config self
   open_still : (w : Window) → OneMore self.window w → OpenWindow w → Updated self config (record { filter = self.filter; window = w })
   finished : (w : Window) → OneMore self.window w → T (le update_period w.elapsed_s)
-      → Updated self config (record { filter = Estimate (closed self.filter config w); window = empty })
+      → Updated self config (record { filter = Some (closed self.filter config w); window = empty })
 
 -- ---- accepted samples
 
@@ -57,7 +55,7 @@ pub record AcceptedSample (config : WindConfig) : Type 0 where
   pub state : VehicleState
   pub sample : Sample
   pub step_accepted : Accepted dt
-  pub is_taken : from_state state config.max_axial_speed_mps ≡ Taken sample
+  pub is_taken : from_state state config.max_axial_speed_mps ≡ Some sample
 
 -- the estimator after these updates
 unfoldable pub updates : (config : WindConfig) → WindEstimator → List (AcceptedSample config) → WindEstimator
@@ -84,7 +82,7 @@ pub record ClosesAt (self : WindEstimator) (config : WindConfig) (samples : List
   pub counts : (k : ℕ) → k ≤ n → (sums self.window (take k samples)).ticks ≡ self.window.ticks + k
   pub long : T (le update_period (sums self.window (take n samples)).elapsed_s)
   pub closes : updates config self (take n samples)
-      ≡ record { filter = Estimate (closed self.filter config (sums self.window (take n samples))); window = empty }
+      ≡ record { filter = Some (closed self.filter config (sums self.window (take n samples))); window = empty }
 
 -- Of an estimator with an empty window, as a fresh one has and as each window that closes leaves, and a configuration with a drag coefficient.
 pub record WindowCloses : Type 0 where
@@ -103,5 +101,5 @@ pub record WindowCloses : Type 0 where
       → ClosesAt self config samples 820
   -- an update that takes no sample changes nothing, so any number of them may stand between
   pub others_change_nothing : (self : WindEstimator) (config : WindConfig) (dt : Float) (state : VehicleState)
-      → from_state state config.max_axial_speed_mps ≡ Nothing
+      → from_state state config.max_axial_speed_mps ≡ None
       → update self dt config state ≡ self

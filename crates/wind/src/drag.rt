@@ -2,7 +2,7 @@
 // rotors' momentum drag.
 ghost use Rattle.std.specs.Prelude.{◌≡◌, true};
 ghost use Rattle.math.specs.Math.{zero};
-ghost use Rattle.wind.specs.Drag.{is_on, axis_drag, push, slope, newton_step, still_air, against, air_velocity, drag_along, drag};
+ghost use Rattle.wind.specs.Drag.{is_on, axis_drag, airspeed, push, slope, newton_step, still_air, against, air_velocity, drag_along, drag};
 ghost use Rattle.wind.specs.Inner.{three_steps, air_and_slope, with_slope};
 
 use math::vectors::Vec2;
@@ -31,11 +31,11 @@ pub struct AxisDrag {
     pub mu_per_s: f32,
 }
 
-// The air velocity along an axis and the drag's slope there; none where the axis has no drag.
+// The air velocity along an axis, and the drag's slope there.
 #[derive(Clone, Copy)]
-pub enum AirVelocity {
-    Unknown,
-    Along(f32, f32),
+pub struct AirVelocity {
+    pub along_mps: f32,
+    pub slope_per_s: f32,
 }
 
 // A speed that Newton's method has found, and the push's slope there or at the speed before.
@@ -47,52 +47,60 @@ pub struct Step {
 
 impl WindConfig {
     // Whether any axis has a drag coefficient.
+    #[tactic(auto, unfolding(crate::specs::Drag::is_on))]
     pub fn is_on(self) -> bool
         ensures { result ≡ is_on self }
     {
-        if self.ballistic_kgpm2.x > 0.0 {
-            return true;
-        }
-        if self.ballistic_kgpm2.y > 0.0 {
-            return true;
-        }
-        if self.momentum_per_s.x > 0.0 {
-            return true;
-        }
-        self.momentum_per_s.y > 0.0
+        self.ballistic_kgpm2.x > 0.0
+            || self.ballistic_kgpm2.y > 0.0
+            || self.momentum_per_s.x > 0.0
+            || self.momentum_per_s.y > 0.0
     }
 
     // The drag's acceleration at an air velocity in the thrust frame, level.
+    #[tactic(auto, unfolding(crate::specs::Drag::drag))]
     pub fn drag_mps2(self, air_mps: Vec2) -> Vec2
         ensures { result ≡ drag self air_mps }
     {
-        let along_x = AxisDrag::new(self.ballistic_kgpm2.x, self.momentum_per_s.x);
-        let along_y = AxisDrag::new(self.ballistic_kgpm2.y, self.momentum_per_s.y);
         Vec2 {
-            x: along_x.drag_along(air_mps.x),
-            y: along_y.drag_along(air_mps.y),
+            x: self.along_x().drag_along(air_mps.x),
+            y: self.along_y().drag_along(air_mps.y),
         }
+    }
+
+    // The drag along the thrust frame's x.
+    pub(crate) fn along_x(self) -> AxisDrag
+        ensures { result ≡ axis_drag self.ballistic_kgpm2.x self.momentum_per_s.x }
+    {
+        AxisDrag::new(self.ballistic_kgpm2.x, self.momentum_per_s.x)
+    }
+
+    // The drag along its y.
+    pub(crate) fn along_y(self) -> AxisDrag
+        ensures { result ≡ axis_drag self.ballistic_kgpm2.y self.momentum_per_s.y }
+    {
+        AxisDrag::new(self.ballistic_kgpm2.y, self.momentum_per_s.y)
     }
 }
 
 impl AxisDrag {
     // Half the air's density over the ballistic figure, 0 for a figure that is not positive.
+    #[tactic(auto, unfolding(crate::specs::Drag::axis_drag))]
     pub fn new(ballistic: f32, momentum: f32) -> AxisDrag
         ensures { result ≡ axis_drag ballistic momentum }
     {
-        if ballistic > 0.0 {
-            return AxisDrag {
-                k_per_m: 0.5 * AIR_DENSITY_KGPM3 / ballistic,
-                mu_per_s: momentum,
-            };
-        }
         AxisDrag {
-            k_per_m: 0.0,
+            k_per_m: if ballistic > 0.0 {
+                0.5 * AIR_DENSITY_KGPM3 / ballistic
+            } else {
+                0.0
+            },
             mu_per_s: momentum,
         }
     }
 
     // The drag against an air velocity, where there is no air along the thrust axis.
+    #[tactic(auto, unfolding(crate::specs::Drag::drag_along))]
     pub fn drag_along(self, air_mps: f32) -> f32
         ensures { result ≡ drag_along self air_mps }
     {
@@ -101,6 +109,7 @@ impl AxisDrag {
 
     // The push where there is no air along the thrust axis: the airspeed is then the size of the air
     // velocity, and no root is taken where the size's square is a plain one.
+    #[tactic(auto, using(math::proofs::Laws::Length::length_along), unfolding(crate::specs::Drag::push))]
     fn level_push_mps2(self, air_mps: f32) -> f32
         ensures { result ≡ push self air_mps zero }
     {
@@ -112,40 +121,45 @@ impl AxisDrag {
     }
 
     // The size of the drag's acceleration, with air along the axis and along the thrust axis.
+    #[tactic(auto, unfolding(crate::specs::Drag::push))]
     pub fn push_mps2(self, air_mps: f32, axial_mps: f32) -> f32
         ensures { result ≡ push self air_mps axial_mps }
     {
-        let airspeed_mps = floats::sqrt::sqrtf(air_mps * air_mps + axial_mps * axial_mps);
-        (self.k_per_m * airspeed_mps + self.mu_per_s) * floats::compare::abs(air_mps)
+        (self.k_per_m * airspeed_mps(air_mps, axial_mps) + self.mu_per_s)
+            * floats::compare::abs(air_mps)
     }
 
     // How the push grows with the air velocity.
+    #[tactic(auto, unfolding(crate::specs::Drag::slope))]
     pub fn slope_per_s(self, air_mps: f32, axial_mps: f32) -> f32
         ensures { result ≡ slope self air_mps axial_mps }
     {
-        let airspeed_mps = floats::sqrt::sqrtf(air_mps * air_mps + axial_mps * axial_mps);
-        if airspeed_mps > 0.0 {
-            let bluff = self.k_per_m * (airspeed_mps + air_mps * air_mps / airspeed_mps);
-            return bluff + self.mu_per_s;
-        }
-        0.0 + self.mu_per_s
+        let speed_mps = airspeed_mps(air_mps, axial_mps);
+        let bluff_per_s = if speed_mps > 0.0 {
+            self.k_per_m * (speed_mps + air_mps * air_mps / speed_mps)
+        } else {
+            0.0
+        };
+        bluff_per_s + self.mu_per_s
     }
 
     // One step of Newton's method for the speed whose push is `push`, and the slope at `speed`. Where
     // the slope is not positive, the speed stays.
+    #[tactic(auto, unfolding(crate::specs::Drag::newton_step))]
     fn newton_step(self, push: f32, axial_mps: f32, speed: f32) -> Step
         ensures speed { result.speed ≡ newton_step self push axial_mps speed }
         ensures slope_per_s { result.slope_per_s ≡ slope self speed axial_mps }
     {
         let excess = self.push_mps2(speed, axial_mps) - push;
         let slope_per_s = self.slope_per_s(speed, axial_mps);
-        if slope_per_s > 0.0 {
-            return Step {
-                speed: speed - excess / slope_per_s,
-                slope_per_s,
-            };
+        Step {
+            speed: if slope_per_s > 0.0 {
+                speed - excess / slope_per_s
+            } else {
+                speed
+            },
+            slope_per_s,
         }
-        Step { speed, slope_per_s }
     }
 
     // Three steps, and the slope at the last speed. After a step that left the speed as it was, the
@@ -169,6 +183,7 @@ impl AxisDrag {
     }
 
     // The speed whose push is `push` where there is no air along the thrust axis.
+    #[tactic(auto, unfolding(crate::specs::Drag::still_air))]
     fn still_air(self, push: f32) -> f32
         ensures { result ≡ still_air self push }
     {
@@ -177,10 +192,11 @@ impl AxisDrag {
         (floats::sqrt::sqrtf(mu * mu + 4.0 * k * push) - mu) / (2.0 * k)
     }
 
-    // The air velocity that the drag `force_mps2` comes from, and the slope there. Drag opposes the air
-    // velocity, so that it is against the force. The clauses say the same, by the source's steps and as
-    // the code divides them.
-    pub fn air_velocity(self, force_mps2: f32, axial_mps: f32) -> AirVelocity
+    // The air velocity that the drag `force_mps2` comes from, and the slope there; none where the axis has
+    // no drag. Drag opposes the air velocity, so that it is against the force. The clauses say the same,
+    // by the source's steps and as the code divides them.
+    #[tactic(auto, unfolding(crate::specs::Inner::air_and_slope))]
+    pub fn air_velocity(self, force_mps2: f32, axial_mps: f32) -> Option<AirVelocity>
         ensures of_source { result ≡ with_slope self axial_mps (air_velocity self force_mps2 axial_mps) }
         ensures in_steps { result ≡ air_and_slope self force_mps2 axial_mps }
     {
@@ -188,27 +204,37 @@ impl AxisDrag {
         if self.k_per_m > 0.0 {
             let first = self.newton_step(push, axial_mps, self.still_air(push));
             let fourth = self.three_steps(push, axial_mps, first.speed);
-            return AirVelocity::Along(against(force_mps2, fourth.speed), fourth.slope_per_s);
+            return Some(AirVelocity {
+                along_mps: against(force_mps2, fourth.speed),
+                slope_per_s: fourth.slope_per_s,
+            });
         }
         if self.mu_per_s > 0.0 {
             let air_mps = against(force_mps2, push / self.mu_per_s);
-            return AirVelocity::Along(air_mps, self.slope_per_s(air_mps, axial_mps));
+            return Some(AirVelocity {
+                along_mps: air_mps,
+                slope_per_s: self.slope_per_s(air_mps, axial_mps),
+            });
         }
-        AirVelocity::Unknown
+        None
     }
+}
+
+fn airspeed_mps(air_mps: f32, axial_mps: f32) -> f32
+    ensures { result ≡ airspeed air_mps axial_mps }
+{
+    floats::sqrt::sqrtf(air_mps * air_mps + axial_mps * axial_mps)
 }
 
 // Whether v and w are equal and not zero, so that they are one number.
 fn surely_same(v: f32, w: f32) -> bool
     ensures { result ≡ true → v ≡ w }
 {
-    if v == w {
-        return v != 0.0;
-    }
-    false
+    v == w && v != 0.0
 }
 
 // A speed with the sign against a force.
+#[tactic(auto, unfolding(crate::specs::Drag::against))]
 fn against(force_mps2: f32, speed: f32) -> f32
     ensures { result ≡ against force_mps2 speed }
 {

@@ -1,12 +1,12 @@
 // The wind estimate: a Kalman filter on the wind, north and east.
 ghost use Rattle.std.specs.Prelude.{◌≡◌};
-ghost use Rattle.wind.specs.Estimate.{initial, predict, correct, corrected, covariance_along, sd_along};
+ghost use Rattle.wind.specs.Estimate.{diagonal, sum, initial, predict, correct, corrected, covariance_along, sd_along};
 
 use crate::drag::WindConfig;
 use math::vectors::Vec2;
 
 // Two rows of two, in m²/s² where it is a covariance.
-#[derive(Clone, Copy)]
+#[derive(Clone, Copy, PartialEq)]
 pub struct Matrix2 {
     pub m00: f32,
     pub m01: f32,
@@ -14,51 +14,79 @@ pub struct Matrix2 {
     pub m11: f32,
 }
 
+impl Matrix2 {
+    // The identity times a number. Off the diagonal stands 0 times it, which is a NaN where it is
+    // infinite.
+    #[tactic(auto, unfolding(crate::specs::Estimate::diagonal))]
+    fn diagonal(s: f32) -> Matrix2
+        ensures { result ≡ diagonal s }
+    {
+        Matrix2 {
+            m00: 1.0 * s,
+            m01: 0.0 * s,
+            m10: 0.0 * s,
+            m11: 1.0 * s,
+        }
+    }
+
+    fn plus(self, other: Matrix2) -> Matrix2
+        ensures { result ≡ sum self other }
+    {
+        Matrix2 {
+            m00: self.m00 + other.m00,
+            m01: self.m01 + other.m01,
+            m10: self.m10 + other.m10,
+            m11: self.m11 + other.m11,
+        }
+    }
+
+    // The matrix times an axis.
+    #[tactic(auto, unfolding(crate::specs::Estimate::covariance_along))]
+    fn along(self, axis: Vec2) -> Vec2
+        ensures { result ≡ covariance_along self axis }
+    {
+        Vec2 {
+            x: self.m00 * axis.x + self.m01 * axis.y,
+            y: self.m10 * axis.x + self.m11 * axis.y,
+        }
+    }
+}
+
 // The air's velocity, to where the wind blows, and its covariance.
-#[derive(Clone, Copy)]
+#[derive(Clone, Copy, PartialEq)]
 pub struct WindEstimate {
     pub velocity_mps: Vec2,
     pub covariance_m2ps2: Matrix2,
 }
 
 impl WindEstimate {
-    // No wind, with the configured deviation on both axes. Off the diagonal stands 0 times the
-    // variance, which is a NaN where the variance is infinite.
+    // No wind, with the configured deviation on both axes.
+    #[tactic(auto, unfolding(crate::specs::Estimate::initial))]
     pub fn initial(config: WindConfig) -> WindEstimate
         ensures { result ≡ initial config }
     {
-        let variance = config.initial_sd_mps * config.initial_sd_mps;
         WindEstimate {
             velocity_mps: Vec2::zeros(),
-            covariance_m2ps2: Matrix2 {
-                m00: 1.0 * variance,
-                m01: 0.0 * variance,
-                m10: 0.0 * variance,
-                m11: 1.0 * variance,
-            },
+            covariance_m2ps2: Matrix2::diagonal(config.initial_sd_mps * config.initial_sd_mps),
         }
     }
 
     // The covariance grows with the time elapsed.
+    #[tactic(auto, unfolding(crate::specs::Estimate::predict))]
     pub fn predict(self, elapsed_s: f32, config: WindConfig) -> WindEstimate
         ensures { result ≡ predict self elapsed_s config }
     {
         let q = config.process_noise_mps_per_rt_s;
-        let growth = q * q * elapsed_s;
-        let velocity_mps = self.velocity_mps;
+        let growth = Matrix2::diagonal(q * q * elapsed_s);
         WindEstimate {
-            velocity_mps,
-            covariance_m2ps2: Matrix2 {
-                m00: self.covariance_m2ps2.m00 + 1.0 * growth,
-                m01: self.covariance_m2ps2.m01 + 0.0 * growth,
-                m10: self.covariance_m2ps2.m10 + 0.0 * growth,
-                m11: self.covariance_m2ps2.m11 + 1.0 * growth,
-            },
+            covariance_m2ps2: self.covariance_m2ps2.plus(growth),
+            ..self
         }
     }
 
     // One measurement of the wind along an axis. Outside the gate, or with an innovation that is a NaN
     // or a variance that is not finite, it changes nothing.
+    #[tactic(auto, unfolding(crate::specs::Estimate::correct))]
     pub fn correct(
         self,
         axis: Vec2,
@@ -68,42 +96,29 @@ impl WindEstimate {
     ) -> WindEstimate
         ensures { result ≡ correct self axis measured_mps variance_m2ps2 gate_sigma }
     {
-        let along = self.covariance_along(axis);
+        let along = self.covariance_m2ps2.along(axis);
         let innovation_variance = axis.dot(along) + variance_m2ps2;
         let innovation = measured_mps - axis.dot(self.velocity_mps);
         let gate = gate_sigma * gate_sigma * innovation_variance;
-        if innovation * innovation <= gate {
-            if floats::compare::is_finite(innovation_variance) {
-                return self.corrected(along, innovation, innovation_variance);
-            }
+        if innovation * innovation <= gate && floats::compare::is_finite(innovation_variance) {
+            return self.corrected(along, innovation, innovation_variance);
         }
         self
     }
 
-    // The covariance times an axis.
-    fn covariance_along(self, axis: Vec2) -> Vec2
-        ensures { result ≡ covariance_along self.covariance_m2ps2 axis }
-    {
-        let p = self.covariance_m2ps2;
-        Vec2 {
-            x: p.m00 * axis.x + p.m01 * axis.y,
-            y: p.m10 * axis.x + p.m11 * axis.y,
-        }
-    }
-
     // The estimate after a measurement that is taken. The covariance is made symmetric against
     // rounding.
+    #[tactic(auto, unfolding(crate::specs::Estimate::corrected))]
     fn corrected(self, along: Vec2, innovation: f32, innovation_variance: f32) -> WindEstimate
         ensures { result ≡ corrected self along innovation innovation_variance }
     {
-        let gain = along.over(innovation_variance);
-        let velocity = self.velocity_mps;
+        let gain = along / innovation_variance;
         let p = self.covariance_m2ps2;
         let m01 = p.m01 - gain.x * along.y;
         let m10 = p.m10 - gain.y * along.x;
         let off = 0.5 * (m01 + m10);
         WindEstimate {
-            velocity_mps: velocity.plus(gain.times(innovation)),
+            velocity_mps: self.velocity_mps + gain * innovation,
             covariance_m2ps2: Matrix2 {
                 m00: p.m00 - gain.x * along.x,
                 m01: off,
@@ -114,6 +129,7 @@ impl WindEstimate {
     }
 
     // The wind's deviation along a horizontal direction of length 1, in m/s.
+    #[tactic(auto, unfolding(crate::specs::Estimate::sd_along))]
     pub fn sd_along_mps(self, direction: Vec2) -> f32
         ensures { result ≡ sd_along self direction }
     {

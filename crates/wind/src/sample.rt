@@ -1,7 +1,7 @@
 // What one call tells of the air: the specific force and the ground velocity along the thrust frame's
 // axes, and the horizontal parts of those axes.
 ghost use Rattle.std.specs.Prelude.{◌≡◌};
-ghost use Rattle.wind.specs.Sample.{rotation, body_axes, dot3, along, specific_force_ned, sample_finite, from_state};
+ghost use Rattle.wind.specs.Sample.{rotation, body_axes, dot3, along, specific_force_ned, sample_finite, zero_sample, sample_sum, sample_over, from_state};
 
 use crate::state::VehicleState;
 pub use math::GRAVITY;
@@ -10,7 +10,7 @@ use math::vectors::{Quaternion, Vec2, Vec3};
 // Cosine of the most tilt that a sample is taken at, 45 degrees: the root of a half.
 const MIN_TILT_COSINE: f32 = 0.70710677;
 
-#[derive(Clone, Copy)]
+#[derive(Clone, Copy, Default)]
 pub struct Sample {
     pub specific_force_mps2: Vec2,
     pub ground_along_mps: Vec2,
@@ -19,14 +19,7 @@ pub struct Sample {
     pub axial_mps: f32,
 }
 
-// A sample that is taken, or none.
-#[derive(Clone, Copy)]
-pub enum Sampled {
-    Nothing,
-    Taken(Sample),
-}
-
-// The body's axes, each as north, east and down.
+// The body's axes, each as north, east and down: three vectors by their names, as `Vec3` is three floats.
 #[derive(Clone, Copy)]
 pub struct BodyAxes {
     pub x: Vec3,
@@ -35,13 +28,11 @@ pub struct BodyAxes {
 }
 
 // The rows of the attitude's rotation, from the body's axes to north, east and down.
+#[tactic(auto, unfolding(crate::specs::Sample::rotation))]
 fn rotation(q: Quaternion) -> [[f32; 3]; 3]
     ensures { result ≡ rotation q }
 {
-    let w = q.w;
-    let i = q.i;
-    let j = q.j;
-    let k = q.k;
+    let Quaternion { w, i, j, k } = q;
     let ww = w * w;
     let ii = i * i;
     let jj = j * j;
@@ -60,26 +51,20 @@ fn rotation(q: Quaternion) -> [[f32; 3]; 3]
 }
 
 // The columns of the attitude's rotation.
+#[tactic(auto, unfolding(crate::specs::Sample::body_axes))]
 fn body_axes(q: Quaternion) -> BodyAxes
     ensures { result ≡ body_axes q }
 {
     let rotation = rotation(q);
+    let column = |at: usize| Vec3 {
+        x: rotation[0][at],
+        y: rotation[1][at],
+        z: rotation[2][at],
+    };
     BodyAxes {
-        x: Vec3 {
-            x: rotation[0][0],
-            y: rotation[1][0],
-            z: rotation[2][0],
-        },
-        y: Vec3 {
-            x: rotation[0][1],
-            y: rotation[1][1],
-            z: rotation[2][1],
-        },
-        z: Vec3 {
-            x: rotation[0][2],
-            y: rotation[1][2],
-            z: rotation[2][2],
-        },
+        x: column(0),
+        y: column(1),
+        z: column(2),
     }
 }
 
@@ -90,6 +75,7 @@ fn dot3(v: Vec3, w: Vec3) -> f32
 }
 
 // The acceleration felt, without gravity, north, east and down.
+#[tactic(auto, unfolding(crate::specs::Sample::specific_force_ned))]
 fn specific_force_ned(a: Vec3) -> Vec3
     ensures { result ≡ specific_force_ned a }
 {
@@ -103,64 +89,87 @@ fn specific_force_ned(a: Vec3) -> Vec3
 impl Sample {
     // None where the craft is tilted too far or too fast along the thrust axis, or a number of the
     // sample is not finite. A NaN passes the first two tests, and fails the last.
-    pub fn from_state(state: VehicleState, max_axial_speed_mps: f32) -> Sampled
+    #[tactic(auto, unfolding(crate::specs::Sample::from_state))]
+    pub fn from_state(state: VehicleState, max_axial_speed_mps: f32) -> Option<Sample>
         ensures { result ≡ from_state state max_axial_speed_mps }
     {
         let axes = body_axes(state.attitude);
         if axes.z.z < MIN_TILT_COSINE {
-            return Sampled::Nothing;
+            return None;
         }
         let sample = Sample::along(axes, state);
         if floats::compare::abs(sample.axial_mps) > max_axial_speed_mps {
-            return Sampled::Nothing;
+            return None;
         }
-        if sample.is_finite() {
-            return Sampled::Taken(sample);
-        }
-        Sampled::Nothing
+        sample.is_finite().then_some(sample)
     }
 
     // The sample of a craft with these body axes.
+    #[tactic(auto, unfolding(crate::specs::Sample::along))]
     fn along(axes: BodyAxes, state: VehicleState) -> Sample
         ensures { result ≡ along axes state }
     {
-        let axis_x = axes.x;
-        let axis_y = axes.y;
         let velocity_ned = math::neu_to_ned(state.velocity_mps);
         let force_ned = specific_force_ned(state.acceleration_mps2);
         Sample {
             specific_force_mps2: Vec2 {
-                x: dot3(axis_x, force_ned),
-                y: dot3(axis_y, force_ned),
+                x: dot3(axes.x, force_ned),
+                y: dot3(axes.y, force_ned),
             },
             ground_along_mps: Vec2 {
-                x: dot3(axis_x, velocity_ned),
-                y: dot3(axis_y, velocity_ned),
+                x: dot3(axes.x, velocity_ned),
+                y: dot3(axes.y, velocity_ned),
             },
             axis_x: Vec2 {
-                x: axis_x.x,
-                y: axis_x.y,
+                x: axes.x.x,
+                y: axes.x.y,
             },
             axis_y: Vec2 {
-                x: axis_y.x,
-                y: axis_y.y,
+                x: axes.y.x,
+                y: axes.y.y,
             },
             axial_mps: dot3(axes.z, velocity_ned),
         }
     }
 
+    #[tactic(auto, unfolding(crate::specs::Sample::sample_finite))]
     fn is_finite(self) -> bool
         ensures { result ≡ sample_finite self }
     {
-        if math::all_finite(self.specific_force_mps2) {
-            if math::all_finite(self.ground_along_mps) {
-                if math::all_finite(self.axis_x) {
-                    if math::all_finite(self.axis_y) {
-                        return floats::compare::is_finite(self.axial_mps);
-                    }
-                }
-            }
+        math::all_finite(self.specific_force_mps2)
+            && math::all_finite(self.ground_along_mps)
+            && math::all_finite(self.axis_x)
+            && math::all_finite(self.axis_y)
+            && floats::compare::is_finite(self.axial_mps)
+    }
+
+    pub(crate) fn zeros() -> Sample
+        ensures { result ≡ zero_sample }
+    {
+        Sample::default()
+    }
+
+    pub(crate) fn plus(self, other: Sample) -> Sample
+        ensures { result ≡ sample_sum self other }
+    {
+        Sample {
+            specific_force_mps2: self.specific_force_mps2 + other.specific_force_mps2,
+            ground_along_mps: self.ground_along_mps + other.ground_along_mps,
+            axis_x: self.axis_x + other.axis_x,
+            axis_y: self.axis_y + other.axis_y,
+            axial_mps: self.axial_mps + other.axial_mps,
         }
-        false
+    }
+
+    pub(crate) fn over(self, n: f32) -> Sample
+        ensures { result ≡ sample_over self n }
+    {
+        Sample {
+            specific_force_mps2: self.specific_force_mps2 / n,
+            ground_along_mps: self.ground_along_mps / n,
+            axis_x: self.axis_x / n,
+            axis_y: self.axis_y / n,
+            axial_mps: self.axial_mps / n,
+        }
     }
 }

@@ -1,11 +1,11 @@
 // The estimator: samples are averaged over a window of 0.2 s before each update.
 ghost use Rattle.std.specs.Prelude.{◌≡◌};
-ghost use Rattle.wind.specs.Wind.{empty, fresh, filter_or, grown, mean, axis_corrected, closed, gathered, update};
+ghost use Rattle.wind.specs.Wind.{empty, fresh, grown, mean, axis_corrected, closed, gathered, update};
 ghost use Rattle.wind.specs.Inner.{noise_by_slope};
 
-use crate::drag::{AirVelocity, AxisDrag, WindConfig};
+use crate::drag::{AxisDrag, WindConfig};
 use crate::estimate::WindEstimate;
-use crate::sample::{Sample, Sampled};
+use crate::sample::Sample;
 use crate::state::VehicleState;
 use math::vectors::Vec2;
 
@@ -16,154 +16,107 @@ pub const UPDATE_PERIOD_S: f32 = 0.2;
 const MIN_DRAG_SLOPE_PER_S: f32 = 0.001;
 
 // The sums over the samples taken since the last window closed.
-#[derive(Clone, Copy)]
+#[derive(Clone, Copy, Default)]
 pub struct Window {
     pub elapsed_s: f32,
     pub ticks: u32,
-    pub specific_force_mps2: Vec2,
-    pub ground_along_mps: Vec2,
-    pub axis_x: Vec2,
-    pub axis_y: Vec2,
-    pub axial_mps: f32,
+    pub sums: Sample,
 }
 
-// The filter's estimate; none before the first window has closed.
-#[derive(Clone, Copy)]
-pub enum Filter {
-    Nothing,
-    Estimate(WindEstimate),
-}
-
-#[derive(Clone, Copy)]
+// The filter's estimate, none before the first window has closed, and the present window.
+#[derive(Clone, Copy, Default)]
 pub struct WindEstimator {
-    pub filter: Filter,
+    pub filter: Option<WindEstimate>,
     pub window: Window,
 }
 
 impl Window {
+    #[tactic(auto, unfolding(crate::specs::Wind::empty))]
     pub fn empty() -> Window
         ensures { result ≡ empty }
     {
-        Window {
-            elapsed_s: 0.0,
-            ticks: 0,
-            specific_force_mps2: Vec2::zeros(),
-            ground_along_mps: Vec2::zeros(),
-            axis_x: Vec2::zeros(),
-            axis_y: Vec2::zeros(),
-            axial_mps: 0.0,
-        }
+        Window::default()
     }
 
     // With one sample more.
+    #[tactic(auto, unfolding(crate::specs::Wind::grown))]
     pub fn grown(self, dt: f32, sample: Sample) -> Window
         ensures { result ≡ grown self dt sample }
     {
-        let force = self.specific_force_mps2;
-        let ground = self.ground_along_mps;
-        let axis_x = self.axis_x;
-        let axis_y = self.axis_y;
         Window {
             elapsed_s: self.elapsed_s + dt,
-            ticks: std::num::wrapping_add_u32(self.ticks, 1),
-            specific_force_mps2: force.plus(sample.specific_force_mps2),
-            ground_along_mps: ground.plus(sample.ground_along_mps),
-            axis_x: axis_x.plus(sample.axis_x),
-            axis_y: axis_y.plus(sample.axis_y),
-            axial_mps: self.axial_mps + sample.axial_mps,
+            ticks: self.ticks.wrapping_add(1),
+            sums: self.sums.plus(sample),
         }
     }
 
     // The mean of the samples.
+    #[tactic(auto, unfolding(crate::specs::Wind::mean))]
     fn mean(self) -> Sample
         ensures { result ≡ mean self }
     {
-        let n = std::num::nearest_u32_to_f32(self.ticks);
-        let force = self.specific_force_mps2;
-        let ground = self.ground_along_mps;
-        let axis_x = self.axis_x;
-        let axis_y = self.axis_y;
-        Sample {
-            specific_force_mps2: force.over(n),
-            ground_along_mps: ground.over(n),
-            axis_x: axis_x.over(n),
-            axis_y: axis_y.over(n),
-            axial_mps: self.axial_mps / n,
-        }
+        self.sums.over(std::num::nearest_u32_to_f32(self.ticks))
     }
 }
 
 impl WindEstimator {
+    #[tactic(auto, unfolding(crate::specs::Wind::fresh, crate::specs::Wind::empty))]
     pub fn new() -> WindEstimator
         ensures { result ≡ fresh }
     {
-        WindEstimator {
-            filter: Filter::Nothing,
-            window: Window::empty(),
-        }
+        WindEstimator::default()
     }
 
     // Takes in the state of one call. With no drag coefficient, or where the state gives no sample,
     // nothing changes.
+    #[tactic(auto, unfolding(crate::specs::Wind::update, crate::specs::Wind::taken))]
     pub fn update(self, dt: f32, config: WindConfig, state: VehicleState) -> WindEstimator
         ensures { result ≡ update self dt config state }
     {
-        if config.is_on() {
-            let Sampled::Taken(sample) = Sample::from_state(state, config.max_axial_speed_mps)
-            else {
-                return self;
-            };
+        if config.is_on()
+            && let Some(sample) = Sample::from_state(state, config.max_axial_speed_mps)
+        {
             return self.gathered(dt, config, sample);
         }
         self
     }
 
     // With one sample more. The window closes once it is long enough.
+    #[tactic(auto, unfolding(crate::specs::Wind::gathered))]
     fn gathered(self, dt: f32, config: WindConfig, sample: Sample) -> WindEstimator
         ensures { result ≡ gathered self dt config sample }
     {
-        let filter = self.filter;
-        let sums = self.window;
-        let window = sums.grown(dt, sample);
+        let window = self.window.grown(dt, sample);
         if window.elapsed_s < UPDATE_PERIOD_S {
-            return WindEstimator { filter, window };
+            return WindEstimator { window, ..self };
         }
         WindEstimator {
-            filter: Filter::Estimate(closed(filter, config, window)),
+            filter: Some(closed(self.filter, config, window)),
             window: Window::empty(),
         }
     }
 
     // The wind, once a window has closed.
-    pub fn estimate(self) -> Filter
+    pub fn estimate(self) -> Option<WindEstimate>
         ensures { result ≡ self.filter }
     {
-        let filter = self.filter;
-        filter
+        self.filter
     }
 }
 
-// The estimate so far, or the initial one.
-fn filter_or(filter: Filter, config: WindConfig) -> WindEstimate
-    ensures { result ≡ filter_or filter config }
-{
-    let Filter::Estimate(estimate) = filter else {
-        return WindEstimate::initial(config);
-    };
-    estimate
-}
-
-// The estimate after a window, one axis after the other.
-fn closed(filter: Filter, config: WindConfig, window: Window) -> WindEstimate
+// The estimate after a window, one axis after the other: from the estimate so far, or the initial one.
+#[tactic(auto, unfolding(crate::specs::Wind::closed, crate::specs::Wind::filter_or))]
+fn closed(filter: Option<WindEstimate>, config: WindConfig, window: Window) -> WindEstimate
     ensures { result ≡ closed filter config window }
 {
     let mean = window.mean();
-    let before = filter_or(filter, config);
-    let predicted = before.predict(window.elapsed_s, config);
+    let predicted = filter
+        .unwrap_or_else(|| WindEstimate::initial(config))
+        .predict(window.elapsed_s, config);
     let along_x = axis_corrected(
         predicted,
         config,
-        AxisDrag::new(config.ballistic_kgpm2.x, config.momentum_per_s.x),
+        config.along_x(),
         mean.axis_x,
         Measured {
             force_mps2: mean.specific_force_mps2.x,
@@ -174,7 +127,7 @@ fn closed(filter: Filter, config: WindConfig, window: Window) -> WindEstimate
     axis_corrected(
         along_x,
         config,
-        AxisDrag::new(config.ballistic_kgpm2.y, config.momentum_per_s.y),
+        config.along_y(),
         mean.axis_y,
         Measured {
             force_mps2: mean.specific_force_mps2.y,
@@ -202,10 +155,7 @@ fn axis_corrected(
 ) -> WindEstimate
     ensures { result ≡ axis_corrected estimate config drag axis mean }
 {
-    let AirVelocity::Along(air_mps, slope_per_s) = drag.air_velocity(
-        mean.force_mps2,
-        mean.axial_mps,
-    ) else {
+    let Some(air) = drag.air_velocity(mean.force_mps2, mean.axial_mps) else {
         return estimate;
     };
     let predicted_air_mps = mean.ground_mps - axis.dot(estimate.velocity_mps);
@@ -213,12 +163,12 @@ fn axis_corrected(
         config.force_noise_mps2,
         drag,
         predicted_air_mps,
-        slope_per_s,
+        air.slope_per_s,
         mean.axial_mps,
     );
     estimate.correct(
         axis,
-        mean.ground_mps - air_mps,
+        mean.ground_mps - air.along_mps,
         noise_mps * noise_mps,
         config.gate_sigma,
     )
@@ -226,6 +176,7 @@ fn axis_corrected(
 
 // The noise of the wind along an axis, in m/s: the force's over the drag's slope, the steeper of that
 // at the air velocity that the estimate predicts and `slope_per_s`, that at the measured one.
+#[tactic(auto, unfolding(crate::specs::Inner::noise_by_slope))]
 fn noise(
     force_noise_mps2: f32,
     drag: AxisDrag,

@@ -1,4 +1,5 @@
--- Bytes moved to a buffer's start: the buffer keeps its length, and one store moves one byte more. Assumes nothing.
+-- Bytes moved to a buffer's start: the buffer keeps its length, one store moves one byte more, and from the end on there is nothing to move. Assumes
+-- nothing.
 use Prim.Native.Nat.{ℕ, suc, ◌+◌, ◌-◌, ◌<◌, ◌≤◌}
 use mathlib.Core.Path.{◌≡◌, refl}
 use mathlib.Core.Bool.{Bool, true, false, cond}
@@ -41,3 +42,12 @@ moved_length bytes from end = by_test (leb end (length bytes)) refl
     by_test : (b : Bool) → leb end (length bytes) ≡ b → length (cond b (shifted bytes from (end - from)) bytes) ≡ length bytes
     by_test true e = let h = leb-true end (length bytes) e in shifted_length bytes from (end - from) (omega arith)
     by_test false e = refl
+
+either_way : (b : Bool) (bytes : List ℕ) → bytes ≡ cond b bytes bytes
+either_way true bytes = refl
+either_way false bytes = refl
+
+-- from the end on there is nothing to move
+pub unmoved : (bytes : List ℕ) (from end : ℕ) → end ≤ from → bytes ≡ moved bytes from end
+unfolding moved
+unmoved bytes from end h = let none : end - from ≡ 0 = omega arith in rw none (either_way (leb end (length bytes)) bytes)

@@ -1,31 +1,18 @@
--- `buffers::move_down` meets its contract: before each turn the bytes from `from` to `i` are at the start, and the length is kept. The measure is the number
--- of bytes left. Assumes nothing.
-use Rattle.std.proofs.Common.{rules}
+-- `buffers::move_down` meets its contract. Assumes nothing.
+use Rattle.std.proofs.Common.{refl, zero-add}
 use borrow.Author.Tests.{le-leb, lt-leb}
-use Prim.Native.Nat.{suc, ◌+◌, ◌-◌}
-use mathlib.Core.Path.{◌≡◌}
-use native.Mathlib.Omega.{arith}
-use lib.ListN.{length}
 use Rattle.buffers.specs.Buffers.{moved}
-use Rattle.buffers.proofs.Laws.Moved.{shifted_one_more}
+use Rattle.buffers.proofs.Laws.Moved.{unmoved}
+use Rattle.buffers.proofs.move_down.Goals.{else-end-bytes-via-then-end-bytes+else-from-end, else-end-bytes-via-else-end-bytes}
 use Rattle.buffers.proofs.move_down.Goals as goal
 
-pub returns-then-end-bytes : goal.returns-then-end-bytes
+pub returns-then-from-end : goal.returns-then-from-end
 unfolding moved
-returns-then-end-bytes c = rw (lt-leb _ _ c.if-end-bytes.true)
+returns-then-from-end c = rw (le-leb _ _ c.if-end-bytes.true) (simp zero-add at c.copy_within.ensures.after)
 
-pub loop-i-preserved : goal.loop-i-preserved
-loop-i-preserved c =
-    let in_loop = c.loop-i in
-    let args = c.args in
-    let one_more = shifted_one_more args.bytes.now args.from (in_loop.i - args.from) (omega arith) in
-    let next : in_loop.i - args.from + args.from ≡ in_loop.i = omega arith in
-    let count : in_loop.i + 1 - args.from ≡ suc (in_loop.i - args.from) = omega arith in
-    (search rules, search rules, search rules, cc)
-
-pub returns : goal.returns
+pub returns-else-end-bytes : goal.returns-else-end-bytes
 unfolding moved
-returns c =
-    let args = c.args in
-    let all : c.loop-i.i - args.from ≡ args.end - args.from = omega arith in
-    rw (le-leb args.end (length args.bytes.now) (omega arith), ← all) c.loop-i.invariant.3
+returns-else-end-bytes c = elim c.else-end-bytes.branch [
+  | else-end-bytes-via-then-end-bytes+else-from-end w ↦ unmoved _ _ _ w.if-from-end.false
+  | else-end-bytes-via-else-end-bytes w ↦ rw (lt-leb _ _ w.if-end-bytes.false) refl
+]

@@ -1,10 +1,10 @@
 -- The rate divider: when it is due, that over any number of accepted time steps the time to step over is positive and at most 16,777,216 s, and
 -- that a call that is due and does not run is due again. Assumes nothing.
+use Rattle.std.specs.Prelude.{None, Option, Some}
+use Rattle.std.proofs.lemmas.Option.{same_Some}
 use mathlib.Core.Path.{◌≡◌, refl, subst}
 use mathlib.Core.Bool.{Bool, true, false, cond}
 use mathlib.Core.Logic.{◌↔◌}
-use Prim.Native.Nat.{ℕ}
-use native.Mathlib.Omega.{arith}
 use lib.Dec.{T}
 use lib.Ieee.{Float, binary32, lt, le, add, sub, mul, of_bits, fits, is_nan}
 use lib.Ieee.Fits.{add-fits}
@@ -15,33 +15,25 @@ use Rattle.floats.proofs.Laws.Order.{number, le_numbers, float_le_refl, float_le
 use Rattle.floats.proofs.Laws.Sum.{add_mono, sub_mono, sub_numbers, number_add, number_sub, add_nonneg_number, le_add}
 use Rattle.math.specs.Math.{zero, half, one}
 use Rattle.controllers.specs.declared.rate_divider.RateDivider.{RateDivider}
-use Rattle.controllers.specs.declared.rate_divider.RateDivider.TheVariants.{NeverRan, Elapsed}
-use Rattle.controllers.specs.declared.rate_divider.Due.TheVariants.{Step, NotYet}
-use Rattle.controllers.specs.RateDivider.{due, ran, shortest, longest, Accepted, Legal, Bounded}
+use Rattle.controllers.specs.RateDivider.{never_ran, elapsed, due_since, due, ran, shortest, longest, Accepted, Legal, Bounded}
 
 -- ---- when a call is due
 
-pub first_call_due : (dt period : Float) → due NeverRan dt period ≡ record { divider = NeverRan; due = Step dt }
-unfolding due
+pub first_call_due : (dt period : Float) → due never_ran dt period ≡ record { divider = never_ran; due = Some dt }
+unfolding due_since
 first_call_due dt period = refl
 
-pub elapsed_grows : (before dt period : Float) → (due (Elapsed before) dt period).divider ≡ Elapsed (before ⊕ dt)
-unfolding due
+pub elapsed_grows : (before dt period : Float) → (due (elapsed before) dt period).divider ≡ elapsed (before ⊕ dt)
+unfolding due_since
 elapsed_grows before dt period = refl
 
-never_both : (t : Float) → NotYet ≡ Step t → ⊥
-never_both t p = let z : ◌≡◌ {A = ℕ} 0 1 = cc in omega arith
-
-step_same : (e t : Float) → Step e ≡ Step t → e ≡ t
-step_same e t p = cc
-
-step_by_test : (b : Bool) (e t : Float) → (cond b (Step e) NotYet ≡ Step t) ↔ T b × (e ≡ t)
+step_by_test : (b : Bool) (e t : Float) → (cond b (Some e) None ≡ Some t) ↔ T b × (e ≡ t)
 step_by_test true e t = (λ p. (tt, cc), λ p. cc)
-step_by_test false e t = (λ p. absurd (never_both t p), λ p. absurd p.0)
+step_by_test false e t = (λ p. cc, λ p. absurd p.0)
 
 pub later_call_due : (before dt period t : Float)
-    → ((due (Elapsed before) dt period).due ≡ Step t) ↔ T (le (period ⊖ half ⊗ dt) (before ⊕ dt)) × (before ⊕ dt ≡ t)
-unfolding due
+    → ((due (elapsed before) dt period).due ≡ Some t) ↔ T (le (period ⊖ half ⊗ dt) (before ⊕ dt)) × (before ⊕ dt ≡ t)
+unfolding due_since
 later_call_due before dt period t = step_by_test (le (period ⊖ half ⊗ dt) (before ⊕ dt)) (before ⊕ dt) t
 
 -- ---- accepted time steps
@@ -62,7 +54,7 @@ legal_finite t l = finite_between shortest t longest tt tt l.0 l.1
 -- ---- the time since the last run
 
 -- 2 ^ 24 + 1 is rounded to 2 ^ 24.
-legal_sum : (before dt : Float) → Bounded (Elapsed before) → Accepted dt → Legal (before ⊕ dt)
+legal_sum : (before dt : Float) → Bounded (elapsed before) → Accepted dt → Legal (before ⊕ dt)
 unfolding le of_bits add is_nan
 legal_sum before dt b a =
     let d : T (le zero dt) = float_le_trans zero shortest dt tt a.at_least in
@@ -73,31 +65,37 @@ pub ran_bounded : Bounded ran
 unfolding le of_bits
 ran_bounded = (tt, tt)
 
-pub due_keeps_bound : (d : RateDivider) (dt period : Float) → Bounded d → Accepted dt → Bounded (due d dt period).divider
-unfolding due le of_bits
-due_keeps_bound NeverRan dt period b a = tt
-due_keeps_bound (Elapsed before) dt period b a =
+since_keeps_bound : (since : Option Float) (dt period : Float) → Bounded (record { elapsed_s = since }) → Accepted dt → Bounded (due_since since dt period).divider
+unfolding due_since le of_bits
+since_keeps_bound None dt period b a = tt
+since_keeps_bound (Some before) dt period b a =
     let l = legal_sum before dt b a in (float_le_trans zero shortest (before ⊕ dt) tt l.0, l.1)
 
-pub step_is_legal : (d : RateDivider) (dt period t : Float) → Bounded d → Accepted dt → (due d dt period).due ≡ Step t → Legal t
-unfolding due
-step_is_legal NeverRan dt period t b a e = subst Legal (step_same dt t e) (accepted→legal dt a)
-step_is_legal (Elapsed before) dt period t b a e = subst Legal ((later_call_due before dt period t).0 e).1 (legal_sum before dt b a)
+pub due_keeps_bound : (d : RateDivider) (dt period : Float) → Bounded d → Accepted dt → Bounded (due d dt period).divider
+due_keeps_bound d = since_keeps_bound d.elapsed_s
+
+since_step_is_legal : (since : Option Float) (dt period t : Float) → Bounded (record { elapsed_s = since }) → Accepted dt → (due_since since dt period).due ≡ Some t → Legal t
+unfolding due_since
+since_step_is_legal None dt period t b a e = subst Legal (same_Some dt t e) (accepted→legal dt a)
+since_step_is_legal (Some before) dt period t b a e = subst Legal ((later_call_due before dt period t).0 e).1 (legal_sum before dt b a)
+
+pub step_is_legal : (d : RateDivider) (dt period t : Float) → Bounded d → Accepted dt → (due d dt period).due ≡ Some t → Legal t
+step_is_legal d = since_step_is_legal d.elapsed_s
 
 -- ---- any number of calls
 
 -- the dividers that accepted steps lead to from one that never ran, whatever the periods, with runs and resets in between
 pub data Reached : RateDivider → Type 0 where
-  never_ran : Reached NeverRan
+  at_first : Reached never_ran
   ran_now : Reached ran
   stepped : {d : RateDivider} (dt period : Float) → Accepted dt → Reached d → Reached (due d dt period).divider
 
 pub elapsed_bounded : {d : RateDivider} → Reached d → Bounded d
-elapsed_bounded never_ran = tt
+elapsed_bounded at_first = tt
 elapsed_bounded ran_now = ran_bounded
 elapsed_bounded (stepped {d = d} dt period a r) = due_keeps_bound d dt period (elapsed_bounded r) a
 
-pub reached_step_is_legal : {d : RateDivider} → Reached d → (dt period t : Float) → Accepted dt → (due d dt period).due ≡ Step t → Legal t
+pub reached_step_is_legal : {d : RateDivider} → Reached d → (dt period t : Float) → Accepted dt → (due d dt period).due ≡ Some t → Legal t
 reached_step_is_legal {d} r dt period t a e = step_is_legal d dt period t (elapsed_bounded r) a e
 
 -- ---- a call that was due and did not run
@@ -127,11 +125,11 @@ waits_longer w dt dt' period a a' h f k =
     )
 
 -- It is due again at the next call whose step is no shorter, and steps over no less time.
-pub stays_due : (d : RateDivider) (dt dt' period t : Float) → Accepted dt → Accepted dt' → T (le dt dt') → (due d dt period).due ≡ Step t
-    → (t' : Float) × ((due (due d dt period).divider dt' period).due ≡ Step t') × T (le t t')
-unfolding due
-stays_due NeverRan dt dt' period t a a' h e = (dt', refl, subst (λ (z : Float). T (le z dt')) (step_same dt t e) h)
-stays_due (Elapsed before) dt dt' period t a a' h e =
+since_stays_due : (since : Option Float) (dt dt' period t : Float) → Accepted dt → Accepted dt' → T (le dt dt') → (due_since since dt period).due ≡ Some t
+    → (t' : Float) × ((due (due_since since dt period).divider dt' period).due ≡ Some t') × T (le t t')
+unfolding due_since
+since_stays_due None dt dt' period t a a' h e = (dt', refl, subst (λ (z : Float). T (le z dt')) (same_Some dt t e) h)
+since_stays_due (Some before) dt dt' period t a a' h e =
     let w = before ⊕ dt in
     let k = (later_call_due before dt period t).0 e in
     let l = waits_longer w dt dt' period a a' h (add-fits binary32 before dt) k.0 in (
@@ -141,9 +139,13 @@ stays_due (Elapsed before) dt dt' period t a a' h e =
           (λ (z : Float). T (le z (w ⊕ dt'))) k.1 l.1,
     )
 
+pub stays_due : (d : RateDivider) (dt dt' period t : Float) → Accepted dt → Accepted dt' → T (le dt dt') → (due d dt period).due ≡ Some t
+    → (t' : Float) × ((due (due d dt period).divider dt' period).due ≡ Some t') × T (le t t')
+stays_due d = since_stays_due d.elapsed_s
+
 -- Not so where the next step is shorter: with a period of 10 s, 9.5 s are due at a step of 1 s, and a step of 1/4,096 s later the loop waits.
 pub shorter_step_waits :
-    ((due (Elapsed (f32 0x4108_0000)) one (f32 0x4120_0000)).due ≡ Step (f32 0x4118_0000))
-    × ((due (due (Elapsed (f32 0x4108_0000)) one (f32 0x4120_0000)).divider shortest (f32 0x4120_0000)).due ≡ NotYet)
-unfolding due add sub mul le of_bits
+    ((due (elapsed (f32 0x4108_0000)) one (f32 0x4120_0000)).due ≡ Some (f32 0x4118_0000))
+    × ((due (due (elapsed (f32 0x4108_0000)) one (f32 0x4120_0000)).divider shortest (f32 0x4120_0000)).due ≡ None)
+unfolding due_since add sub mul le of_bits
 shorter_step_waits = (refl, refl)

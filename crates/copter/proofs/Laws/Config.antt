@@ -2,21 +2,22 @@
 -- rules, and are the Rust's by name. Which numbers the rules of this layer take; those of the checks of the layer below are in its laws. Assumes nothing.
 use Prim.Native.Nat.{ℕ, zero, suc, ◌+◌, ◌≤◌, ◌<◌}
 use mathlib.Core.Path.{◌≡◌, refl, subst}
-use mathlib.Core.Bool.{Bool, true, false, ◌&&◌}
+use mathlib.Core.Bool.{Bool, true, false, cond}
 use mathlib.Core.Logic.{◌↔◌}
 use mathlib.Core.List.{List}
 use native.Mathlib.Omega.{arith}
 use borrow.Author.Tests.{ltb-true, ltb-false}
-use lib.Dec.{T, ltb, lit≤}
+use lib.Dec.{T, leb, ltb, lit≤}
 use lib.ListN.{length}
 use lib.Ieee.{Float, of_bits, lt, le}
-use lib.Ieee.Fits.{and_i, and_l, and_r}
 use lib.Ieee.Scale.{finite}
+use Rattle.std.specs.Prelude.{Some, None}
 use Rattle.floats.specs.Ops.{f32}
 use Rattle.math.specs.Math as math
 use Rattle.controllers.specs.Checks.{check_limit, check_positive, check_unit_interval, check_tilt}
+use Rattle.controllers.proofs.Laws.Checks.{both, above_is_above_and_finite}
 use Rattle.copter.specs.declared.config.CopterGuidanceConfig.{CopterGuidanceConfig}
-use Rattle.copter.specs.Config.{below_one, above_descending, up_to_pi, keeps, fields, field_count, defaults, nth, rule, lowest, config_of}
+use Rattle.copter.specs.Config.{below_one, above_descending, up_to_pi, keeps, fields, field_count, defaults, nth, rule, lowest, lowest_broken, config_of}
 use Rattle.copter.specs.Config.{default_config, fields_of, Valid}
 
 -- ---- the fields by number and by name
@@ -136,9 +137,6 @@ kept_is_valid values = (kept_valid values, valid_kept values)
 
 -- ---- what a rule takes
 
-both : (a b : Bool) → T (a && b) ↔ T a × T b
-both a b = (λ t. (and_l a b t, and_r a b t), λ t. and_i a b t.0 t.1)
-
 pub below_one_is_zero_to_below_one : (value : Float) → T (below_one value) ↔ T (le math.zero value) × T (lt value math.one)
 unfolding below_one
 below_one_is_zero_to_below_one value = both (le math.zero value) (lt value math.one)
@@ -146,7 +144,7 @@ below_one_is_zero_to_below_one value = both (le math.zero value) (lt value math.
 -- 3E4CCCCD is 0.2.
 pub above_descending_is_above_touchdown : (value : Float) → T (above_descending value) ↔ T (lt (f32 0x3E4C_CCCD) value) × T (finite value)
 unfolding above_descending
-above_descending_is_above_touchdown value = both (lt (f32 0x3E4C_CCCD) value) (finite value)
+above_descending_is_above_touchdown value = above_is_above_and_finite (f32 0x3E4C_CCCD) value
 
 pub up_to_pi_is_zero_to_pi : (value : Float) → T (up_to_pi value) ↔ T (le math.zero value) × T (le value math.pi)
 unfolding up_to_pi
@@ -158,6 +156,20 @@ up_to_pi_is_zero_to_pi value = both (le math.zero value) (le value math.pi)
 pub defaults_keep_rules : lowest defaults 1 field_count ≡ suc field_count
 unfolding lowest rule defaults check_limit check_positive check_unit_interval check_tilt below_one above_descending up_to_pi of_bits lt le
 defaults_keep_rules = refl
+
+-- So none does.
+pub defaults_accepted : lowest_broken defaults ≡ None
+unfolding lowest_broken
+defaults_accepted = rw defaults_keep_rules
+
+-- The number of the field that is found is where the search ends.
+pub broken_by_number : (values : List Float) (n : ℕ) → lowest_broken values ≡ Some n → lowest values 1 field_count ≡ n
+unfolding lowest_broken
+broken_by_number values n found = told (leb (lowest values 1 field_count) field_count) found
+  where
+    told : (inside : Bool) → cond inside (Some (lowest values 1 field_count)) None ≡ Some n → lowest values 1 field_count ≡ n
+    told true is = cc
+    told false is = cc
 
 -- The defaults of the Rust, as its text names them, by their bits.
 pub defaults_by_name : default_config

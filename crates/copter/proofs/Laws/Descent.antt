@@ -1,5 +1,6 @@
 -- The altitude target is none or a finite height. With none and no finite altitude a waypoint call flies level and a land call has a NaN target. The
 -- descent speed is at most field 21 after a waypoint call and at most field 25 after a land call. Assumes nothing.
+use Rattle.std.specs.Prelude.{None, Option, Some}
 use mathlib.Core.Path.{◌≡◌}
 use mathlib.Core.Bool.{not}
 use lib.Dec.{T}
@@ -14,11 +15,7 @@ use Rattle.math.specs.Math.{zero, shaped_closing_speed}
 use Rattle.altitude.specs.declared.AltitudeTarget.{AltitudeTarget}
 use Rattle.math.proofs.Laws.Cases.{cond_holds}
 use Rattle.copter.specs.declared.config.CopterGuidanceConfig.{CopterGuidanceConfig}
-use Rattle.copter.specs.declared.memory.AltitudeHold.{AltitudeHold}
-use Rattle.copter.specs.declared.memory.AltitudeHold.TheVariants.{Nothing}
 use Rattle.copter.specs.declared.descent.Descent.{Descent}
-use Rattle.copter.specs.declared.descent.DescentStart.{DescentStart}
-use Rattle.copter.specs.declared.descent.DescentStart.TheVariants.{Unknown, From}
 use Rattle.copter.specs.declared.descent.Descended.{Descended}
 use Rattle.controllers.specs.Checks.{check_positive}
 use Rattle.controllers.proofs.Laws.Checks.{positive_is_above_zero_and_finite}
@@ -39,20 +36,20 @@ unfolding landing
 landing_is_finite height rate = cond_holds (λ (d : Descended). NoneOrFinite d.hold) (finite height) (λ f. f) (λ _. tt)
 
 module _ (config : CopterGuidanceConfig) (dt : Float) where
-  descended_is_finite : (start : DescentStart) (hold : AltitudeHold) (waypoint altitude : Float) → NoneOrFinite hold
+  descended_is_finite : (start : Option Descent) (hold : Option Float) (waypoint altitude : Float) → NoneOrFinite hold
       → NoneOrFinite (descended_from start config dt hold waypoint altitude).hold
   unfolding descended_from
-  descended_is_finite Unknown hold waypoint altitude h = h
-  descended_is_finite (From from) hold waypoint altitude h = finite_height_is_finite (toward config dt waypoint altitude from).altitude_m
+  descended_is_finite None hold waypoint altitude h = h
+  descended_is_finite (Some from) hold waypoint altitude h = finite_height_is_finite (toward config dt waypoint altitude from).altitude_m
 
-  landed_is_finite : (start : DescentStart) (speed altitude : Float) → NoneOrFinite (landed_from start config dt speed altitude).hold
+  landed_is_finite : (start : Option Descent) (speed altitude : Float) → NoneOrFinite (landed_from start config dt speed altitude).hold
   unfolding landed_from
-  landed_is_finite Unknown speed altitude = tt
-  landed_is_finite (From from) speed altitude =
+  landed_is_finite None speed altitude = tt
+  landed_is_finite (Some from) speed altitude =
       let rate = ramped_descent config dt config.guidance.land_speed_mps from.speed_mps in
       landing_is_finite (lowered from.start_m (rate ⊗ dt) altitude config.guidance.altitude_leash_m) rate
 
-  module _ (hold : AltitudeHold) (speed altitude climb : Float) where
+  module _ (hold : Option Float) (speed altitude climb : Float) where
     pub waypoint_target_none_or_finite : (waypoint : Float) → NoneOrFinite hold
         → NoneOrFinite (descend_toward config dt hold speed waypoint altitude climb).hold
     unfolding descend_toward
@@ -67,14 +64,14 @@ module _ (config : CopterGuidanceConfig) (dt : Float) where
 
 module _ (config : CopterGuidanceConfig) (dt speed altitude climb : Float) (unknown : T (not (finite altitude))) where
   pub waypoint_flies_level : (waypoint : Float)
-      → descend_toward config dt Nothing speed waypoint altitude climb ≡ record { target = level_at waypoint; hold = Nothing; speed_mps = zero }
+      → descend_toward config dt None speed waypoint altitude climb ≡ record { target = level_at waypoint; hold = None; speed_mps = zero }
   unfolding descend_toward descent_start
   waypoint_flies_level waypoint = rw (is_false (finite altitude) unknown)
 
-  pub land_has_nan_target : land_descent config dt Nothing speed altitude climb
+  pub land_has_nan_target : land_descent config dt None speed altitude climb
       ≡ record {
         target = record { altitude_m = nan; velocity_mps = neg (ramped_descent config dt config.guidance.land_speed_mps speed) };
-        hold = Nothing;
+        hold = None;
         speed_mps = zero;
       }
   unfolding land_descent descent_start
@@ -122,14 +119,14 @@ module _ (config : CopterGuidanceConfig) (kept : T (check_positive config.guidan
       (λ _. rw (neg_neg (min (descent_rate config (step ⊖ waypoint)) rate)) (slower_at_most_limit (step ⊖ waypoint) rate))
       (λ _. level_speed_below limit positive)
 
-  descended_at_most_limit : (start : DescentStart) (dt : Float) (hold : AltitudeHold) (waypoint altitude : Float)
+  descended_at_most_limit : (start : Option Descent) (dt : Float) (hold : Option Float) (waypoint altitude : Float)
       → T (le (descended_from start config dt hold waypoint altitude).speed_mps limit)
   unfolding descended_from
-  descended_at_most_limit Unknown dt hold waypoint altitude = lt→le zero limit positive
-  descended_at_most_limit (From from) dt hold waypoint altitude = toward_at_most_limit dt waypoint altitude from
+  descended_at_most_limit None dt hold waypoint altitude = lt→le zero limit positive
+  descended_at_most_limit (Some from) dt hold waypoint altitude = toward_at_most_limit dt waypoint altitude from
 
   -- at most field 21
-  pub waypoint_speed_capped : (dt : Float) (hold : AltitudeHold) (speed waypoint altitude climb : Float)
+  pub waypoint_speed_capped : (dt : Float) (hold : Option Float) (speed waypoint altitude climb : Float)
       → T (le (descend_toward config dt hold speed waypoint altitude climb).speed_mps limit)
   unfolding descend_toward
   waypoint_speed_capped dt hold speed waypoint altitude climb =
@@ -149,17 +146,17 @@ module _ (config : CopterGuidanceConfig) (kept : T (above_descending config.guid
   landing_at_most_land_speed height rate h =
       cond_holds (λ (d : Descended). T (le d.speed_mps land_speed)) (finite height) (λ _. h) (λ _. rest_at_most_land_speed)
 
-  landed_at_most_land_speed : (start : DescentStart) (dt speed altitude : Float)
+  landed_at_most_land_speed : (start : Option Descent) (dt speed altitude : Float)
       → T (le (landed_from start config dt speed altitude).speed_mps land_speed)
   unfolding landed_from
-  landed_at_most_land_speed Unknown dt speed altitude = rest_at_most_land_speed
-  landed_at_most_land_speed (From from) dt speed altitude =
+  landed_at_most_land_speed None dt speed altitude = rest_at_most_land_speed
+  landed_at_most_land_speed (Some from) dt speed altitude =
       let rate = ramped_descent config dt land_speed from.speed_mps in
       landing_at_most_land_speed (lowered from.start_m (rate ⊗ dt) altitude config.guidance.altitude_leash_m) rate
       (ramped_descent_at_most_limit config dt land_speed from.speed_mps (finite→number land_speed ((above_descending_is_above_touchdown land_speed).0 kept).1))
 
   -- at most field 25
-  pub land_speed_capped : (dt : Float) (hold : AltitudeHold) (speed altitude climb : Float)
+  pub land_speed_capped : (dt : Float) (hold : Option Float) (speed altitude climb : Float)
       → T (le (land_descent config dt hold speed altitude climb).speed_mps land_speed)
   unfolding land_descent
   land_speed_capped dt hold speed altitude climb = landed_at_most_land_speed (descent_start hold speed altitude climb) dt speed altitude

@@ -1,6 +1,7 @@
 -- Document 01's "What each call does": `EachCraft` holds of every craft that primings and calls lead to from a configuration, and `EachCall` of every accepted
 -- call that such a craft gets. Assumes nothing.
 pub mod Legs
+use Rattle.std.specs.Prelude.{None}
 use mathlib.Core.Path.{◌≡◌, refl}
 use lib.Dec.{T}
 use lib.Ieee.{Float, binary32, nan, neg, fits}
@@ -20,7 +21,6 @@ use Rattle.copter.specs.declared.commands.WaypointCommand.{WaypointCommand}
 use Rattle.copter.specs.declared.commands.LandCommand.{LandCommand}
 use Rattle.copter.specs.declared.commands.Command.{Command}
 use Rattle.copter.specs.declared.commands.Command.TheVariants as commands
-use Rattle.copter.specs.declared.memory.AltitudeHold.TheVariants as hold
 use Rattle.copter.specs.declared.memory.CopterGuidance.{CopterGuidance}
 use Rattle.copter.specs.declared.descent.Descended.{Descended}
 use Rattle.copter.specs.declared.tilt.Course.{Course}
@@ -84,7 +84,7 @@ wind_update_cases self dt state s a =
 module _ (self : CopterGuidance) (dt : Float) (state : VehicleState) where
   -- a waypoint or land call with no target to remember
   fly_to_holds : (course : Course) (descended : Descended) (turn : Turn) (wind : HoverWind) (target : AltitudeTarget)
-      → descended ≡ record { target = target; hold = hold.Nothing; speed_mps = zero }
+      → descended ≡ record { target = target; hold = None; speed_mps = zero }
       → Holds self dt state target (fly_to self dt state course descended turn wind)
   unfolding fly_to
   fly_to_holds course descended turn wind target e = rw e (record { thrust = refl; no_target = refl; at_rest = refl })

@@ -1,5 +1,6 @@
 -- The heading target after each call: wrapped; if the wrap is not finite, the wrapped estimate; if that is not finite either, kept. A wrapped finite angle is
 -- at least -π and below π. A priming stores the heading as given. Assumes nothing.
+use Rattle.std.specs.Prelude.{None, Option, Some}
 use mathlib.Core.Path.{◌≡◌, refl}
 use lib.Dec.{T}
 use lib.Ieee.{Float, binary32, lt, fits}
@@ -15,12 +16,9 @@ use Rattle.wind.specs.declared.state.VehicleState.{VehicleState}
 use Rattle.heading.specs.HoverWind as hover
 use Rattle.heading.specs.LegHeading as leg
 use Rattle.heading.specs.WindHeading as wind
-use Rattle.heading.specs.declared.Angle.{Angle}
-use Rattle.heading.specs.declared.Angle.TheVariants.{Nothing, Rad}
 use Rattle.heading.specs.declared.HeadingConfig.{HeadingConfig}
 use Rattle.heading.specs.declared.leg_heading.LegHeading.{LegHeading}
 use Rattle.heading.specs.declared.leg_heading.Turn.{Turn}
-use Rattle.wind.specs.declared.window.Filter.{Filter}
 use Rattle.math.specs.declared.vectors.Vec2.{Vec2}
 use Rattle.copter.specs.declared.commands.AttitudeCommand.{AttitudeCommand}
 use Rattle.copter.specs.declared.commands.WaypointCommand.{WaypointCommand}
@@ -30,6 +28,7 @@ use Rattle.copter.specs.declared.commands.AbsoluteRateCommand.{AbsoluteRateComma
 use Rattle.copter.specs.declared.memory.CopterGuidance.{CopterGuidance}
 use Rattle.copter.specs.Guide.{followed_heading, heading_target, command_heading, wind_updated, piloted, prime}
 use Rattle.copter.specs.Guide.{attitude_call, absolute_attitude_call, absolute_rate_call, fly_to, waypoint_call, land_call}
+use Rattle.wind.specs.declared.estimate.WindEstimate.{WindEstimate}
 use Rattle.copter.specs.Calls.{Heads, HeadsTo, as_it_is, rewrapped, stick_turned, waypoint_turn, land_turn}
 
 wrap_fits : (x : Float) → T (fits binary32 (wrap_angle x))
@@ -116,48 +115,48 @@ module _ (dt : Float) (config : HeadingConfig) (target : Float) (state : Vehicle
   unfolding leg.turned_toward
   turned_fits to step = add-fits binary32 target (clamp_symmetric (wrap_angle (to ⊖ target)) step)
 
-  turned_along_fits : (bearing : Angle) → T (fits binary32 (leg.turned_along bearing dt config target))
+  turned_along_fits : (bearing : Option Float) → T (fits binary32 (leg.turned_along bearing dt config target))
   unfolding leg.turned_along
-  turned_along_fits Nothing = p
-  turned_along_fits (Rad bearing) =
+  turned_along_fits None = p
+  turned_along_fits (Some bearing) =
       cond-fits binary32 (lt zero config.waypoint_yaw_radps) (leg.turned_toward target bearing (config.waypoint_yaw_radps ⊗ dt)) target
       (turned_fits bearing (config.waypoint_yaw_radps ⊗ dt)) p
 
-  along_leg_fits : (self : LegHeading) (bearing : Angle) → TurnFits (leg.along_leg self dt config target bearing state)
+  along_leg_fits : (self : LegHeading) (bearing : Option Float) → TurnFits (leg.along_leg self dt config target bearing state)
   unfolding leg.along_leg
   along_leg_fits self bearing =
       cond-fits binary32 (leg.yielded self dt config target state).yields state.heading_rad (leg.turned_along bearing dt config target) q
       (turned_along_fits bearing)
 
-  wind_or_leg_fits : (to : Angle) (self : LegHeading) (bearing : Angle) → TurnFits (leg.wind_or_leg to self dt config target bearing state)
+  wind_or_leg_fits : (to : Option Float) (self : LegHeading) (bearing : Option Float) → TurnFits (leg.wind_or_leg to self dt config target bearing state)
   unfolding leg.wind_or_leg
-  wind_or_leg_fits Nothing self bearing = along_leg_fits self bearing
-  wind_or_leg_fits (Rad to) self bearing = turned_fits to (config.heading_rate_radps ⊗ dt)
+  wind_or_leg_fits None self bearing = along_leg_fits self bearing
+  wind_or_leg_fits (Some to) self bearing = turned_fits to (config.heading_rate_radps ⊗ dt)
 
-  uncommanded_fits : (self : LegHeading) (position : Vec2) (estimate : Filter) → TurnFits (leg.uncommanded self dt config target position estimate state)
+  uncommanded_fits : (self : LegHeading) (position : Vec2) (estimate : Option WindEstimate) → TurnFits (leg.uncommanded self dt config target position estimate state)
   unfolding leg.uncommanded
   uncommanded_fits self position estimate =
       let flown = leg.bearing self config position (leg.here_of state) in
       let turn = leg.wind_turn flown config position estimate state in
       wind_or_leg_fits turn.target_rad (leg.with_wind flown.memory turn.wind) flown.bearing_rad
 
-  target_at_fits : (commanded : Angle) (self : LegHeading) (position : Vec2) (estimate : Filter)
+  target_at_fits : (commanded : Option Float) (self : LegHeading) (position : Vec2) (estimate : Option WindEstimate)
       → TurnFits (leg.target_at commanded self dt config target position estimate state)
   unfolding leg.target_at
-  target_at_fits Nothing self position estimate = uncommanded_fits self position estimate
-  target_at_fits (Rad to) self position estimate = turned_fits to (config.heading_rate_radps ⊗ dt)
+  target_at_fits None self position estimate = uncommanded_fits self position estimate
+  target_at_fits (Some to) self position estimate = turned_fits to (config.heading_rate_radps ⊗ dt)
 
-  leg_target_fits : (self : LegHeading) (position : Vec2) (commanded : Angle) (estimate : Filter)
+  leg_target_fits : (self : LegHeading) (position : Vec2) (commanded : Option Float) (estimate : Option WindEstimate)
       → TurnFits (leg.target self dt config target position commanded estimate state)
   unfolding leg.target
   leg_target_fits self position commanded estimate = target_at_fits (leg.finite_angle commanded) self position estimate
 
-  held_or_turned_fits : (to : Angle) (self : LegHeading) → TurnFits (leg.held_or_turned to self dt config target)
+  held_or_turned_fits : (to : Option Float) (self : LegHeading) → TurnFits (leg.held_or_turned to self dt config target)
   unfolding leg.held_or_turned
-  held_or_turned_fits Nothing self = p
-  held_or_turned_fits (Rad to) self = turned_fits to (config.heading_rate_radps ⊗ dt)
+  held_or_turned_fits None self = p
+  held_or_turned_fits (Some to) self = turned_fits to (config.heading_rate_radps ⊗ dt)
 
-  land_target_fits : (self : LegHeading) (estimate : Filter) → TurnFits (leg.land_target self dt config target estimate state)
+  land_target_fits : (self : LegHeading) (estimate : Option WindEstimate) → TurnFits (leg.land_target self dt config target estimate state)
   unfolding leg.land_target
   land_target_fits self estimate =
       let kept = leg.cleared self in
@@ -169,7 +168,7 @@ module _ (dt : Float) (config : HeadingConfig) (target : Float) (state : Vehicle
 abbrev pub heading : CopterGuidance → Float
 heading craft = craft.memory.heading_rad
 
-abbrev updated_estimate : CopterGuidance → Float → VehicleState → Filter
+abbrev updated_estimate : CopterGuidance → Float → VehicleState → Option WindEstimate
 updated_estimate self dt state = hover.estimate (wind_updated self.memory self.config dt state)
 
 module _ (self : CopterGuidance) (dt : Float) (state : VehicleState)

@@ -1,5 +1,6 @@
 -- The lateral loop of a waypoint or land call. A due call with a number that is not finite answers level, keeps the stored tilt, clears capped and does not
 -- restart the divider. While the divider is due from a reset, the stored tilt and capped reach no answer. Assumes nothing.
+use Rattle.std.specs.Prelude.{None, Option, Some}
 use mathlib.Core.Path.{◌≡◌, refl, sym, ap, ◌∙◌}
 use mathlib.Core.Bool.{Bool, true, false, not, cond}
 use mathlib.Core.Logic.{◌⊎◌, inl, inr}
@@ -9,15 +10,12 @@ use lib.Ieee.Bits.{is_true, is_false}
 use Rattle.math.specs.Vectors.{zeros}
 use Rattle.math.specs.declared.vectors.Vec2.{Vec2}
 use Rattle.math.proofs.Laws.Cases.{by_test}
-use Rattle.controllers.specs.RateDivider.{due, Accepted, Bounded}
-use Rattle.controllers.specs.declared.rate_divider.RateDivider.TheVariants.{NeverRan}
-use Rattle.controllers.specs.declared.rate_divider.Due.TheVariants.{Step, NotYet}
+use Rattle.controllers.specs.RateDivider.{never_ran, due_since, due, Accepted, Bounded}
 use Rattle.controllers.specs.declared.rate_divider.Paced.{Paced}
 use Rattle.controllers.proofs.Laws.Divider.{first_call_due, step_is_legal}
 use Rattle.lateral.specs.declared.LateralTarget.{LateralTarget}
 use Rattle.lateral.specs.declared.LateralEstimate.{LateralEstimate}
 use Rattle.wind.specs.declared.state.VehicleState.{VehicleState}
-use Rattle.wind.specs.declared.window.Filter.{Filter}
 use Rattle.heading.specs.HoverWind as hover
 use Rattle.heading.specs.declared.hover_wind.HoverWind.{HoverWind}
 use Rattle.heading.specs.declared.leg_heading.Turn.{Turn}
@@ -30,6 +28,7 @@ use Rattle.copter.specs.declared.tilt.Tilted.{Tilted}
 use Rattle.copter.specs.Tilt.{lateral_target, lateral_estimate, navigable, limit, run, held, levelled, wind_or_zero, tilted_when, tilt_toward}
 use Rattle.copter.specs.Guide.{fly_to, waypoint_call, land_call}
 use Rattle.copter.specs.Calls.{able, paced, NotRun, NotDue, Runs, LateralCall}
+use Rattle.wind.specs.declared.estimate.WindEstimate.{WindEstimate}
 use Rattle.copter.proofs.Laws.Calls.{Navigated, waypoint, land, navigate, course}
 
 -- ---- what a due call needs
@@ -41,31 +40,31 @@ able_navigable course state = refl
 
 -- ---- the lateral loop of a call
 
-module _ (self : LateralMemory) (config : CopterGuidanceConfig) (dt : Float) (course : Course) (estimate : Filter) (state : VehicleState) where
+module _ (self : LateralMemory) (config : CopterGuidanceConfig) (dt : Float) (course : Course) (estimate : Option WindEstimate) (state : VehicleState) where
   abbrev pace : Paced
   pace = due self.rate dt config.guidance.navigation_period_s
 
   -- a due call with a number that is not finite
-  pub not_able_is_level : (step : Float) → pace.due ≡ Step step → T (not (able course state))
+  pub not_able_is_level : (step : Float) → pace.due ≡ Some step → T (not (able course state))
       → tilt_toward self config dt course estimate state ≡ levelled self pace.divider
   unfolding tilt_toward tilted_when
   not_able_is_level step d n = rw (d, able_navigable course state, is_false (able course state) n)
 
   -- a call that is not due
-  pub not_due_is_held : pace.due ≡ NotYet → tilt_toward self config dt course estimate state ≡ held self pace.divider
+  pub not_due_is_held : pace.due ≡ None → tilt_toward self config dt course estimate state ≡ held self pace.divider
   unfolding tilt_toward tilted_when
   not_due_is_held d = rw d
 
   -- a due call whose numbers are finite
-  pub able_runs : (step : Float) → pace.due ≡ Step step → T (able course state)
+  pub able_runs : (step : Float) → pace.due ≡ Some step → T (able course state)
       → tilt_toward self config dt course estimate state
       ≡ run self config step (lateral_target course) (lateral_estimate state) (wind_or_zero estimate) state.heading_rad
   unfolding tilt_toward tilted_when
   able_runs step d t = rw (d, able_navigable course state, is_true (able course state) t)
 
   -- a first call leaves the next one due
-  pub first_call_leaves_due : self.rate ≡ NeverRan → T (not (able course state)) → (next period : Float)
-      → due (tilt_toward self config dt course estimate state).memory.rate next period ≡ record { divider = NeverRan; due = Step next }
+  pub first_call_leaves_due : self.rate ≡ never_ran → T (not (able course state)) → (next period : Float)
+      → due (tilt_toward self config dt course estimate state).memory.rate next period ≡ record { divider = never_ran; due = Some next }
   unfolding tilt_toward tilted_when levelled
   first_call_leaves_due e n next period =
       rw (
@@ -78,7 +77,7 @@ module _ (self : LateralMemory) (config : CopterGuidanceConfig) (dt : Float) (co
 
 module _ (self : CopterGuidance) (dt : Float) (state : VehicleState) where
   module _ (course : Course) (descended : Descended) (turn : Turn) (wind : HoverWind) where
-    fly_to_not_run : (step : Float) → (paced self dt).due ≡ Step step → T (not (able course state))
+    fly_to_not_run : (step : Float) → (paced self dt).due ≡ Some step → T (not (able course state))
         → NotRun self.memory.lateral (paced self dt).divider (fly_to self dt state course descended turn wind)
     unfolding fly_to levelled
     fly_to_not_run step d n =
@@ -93,7 +92,7 @@ module _ (self : CopterGuidance) (dt : Float) (state : VehicleState) where
           request_kept = refl;
         })
 
-    fly_to_not_due : (paced self dt).due ≡ NotYet
+    fly_to_not_due : (paced self dt).due ≡ None
         → NotDue self.memory.lateral (paced self dt).divider (fly_to self dt state course descended turn wind)
     unfolding fly_to held
     fly_to_not_due d =
@@ -107,7 +106,7 @@ module _ (self : CopterGuidance) (dt : Float) (state : VehicleState) where
           request_kept = refl;
         })
 
-    fly_to_runs : (step : Float) → (paced self dt).due ≡ Step step → T (able course state) → Runs (fly_to self dt state course descended turn wind)
+    fly_to_runs : (step : Float) → (paced self dt).due ≡ Some step → T (able course state) → Runs (fly_to self dt state course descended turn wind)
     unfolding fly_to run
     fly_to_runs step d t =
         rw (able_runs self.memory.lateral self.config dt course (hover.estimate wind) state step d t)
@@ -115,7 +114,7 @@ module _ (self : CopterGuidance) (dt : Float) (state : VehicleState) where
 
     fly_to_lateral : Bounded self.memory.lateral.rate → Accepted dt
         → LateralCall self dt state course (fly_to self dt state course descended turn wind)
-    unfolding fly_to due
+    unfolding fly_to due_since
     fly_to_lateral b a =
         record {
           first_due = λ e. rw e;
@@ -141,7 +140,7 @@ module _ (self : CopterGuidance) (dt : Float) (state : VehicleState) where
 
 -- the divider and the requested acceleration as a reset leaves them
 pub record FromReset (self : LateralMemory) : Type 0 where
-  pub never_ran : self.rate ≡ NeverRan
+  pub never_ran : self.rate ≡ never_ran
   pub no_request : self.requested_accel_mps2 ≡ zeros
 
 pub no_request_no_limit : (self : LateralMemory) → self.requested_accel_mps2 ≡ zeros → limit self ≡ zeros
@@ -174,7 +173,7 @@ same_agree : (t u : Tilted) → t ≡ u → AgreeAfter t u
 same_agree t u e = rw e (record { same_tilt = refl; same_capped = refl; memories = inl refl })
 
 both_levelled : (a b : LateralMemory) → Agree a b
-    → AgreeAfter (levelled a NeverRan) (levelled b NeverRan)
+    → AgreeAfter (levelled a never_ran) (levelled b never_ran)
 unfolding levelled
 both_levelled a b h =
     record {
@@ -191,7 +190,7 @@ both_levelled a b h =
           );
     }
 
-module _ (config : CopterGuidanceConfig) (dt : Float) (course : Course) (estimate : Filter) (state : VehicleState) where
+module _ (config : CopterGuidanceConfig) (dt : Float) (course : Course) (estimate : Option WindEstimate) (state : VehicleState) where
   abbrev after : LateralMemory → Tilted
   after self = tilt_toward self config dt course estimate state
 
@@ -202,7 +201,7 @@ module _ (config : CopterGuidanceConfig) (dt : Float) (course : Course) (estimat
       rw (r.never_ran, first_call_due dt config.guidance.navigation_period_s, able_navigable course state, is_true (able course state) t)
 
   not_able_from_reset : (self : LateralMemory) → FromReset self → T (not (able course state))
-      → after self ≡ levelled self NeverRan
+      → after self ≡ levelled self never_ran
   unfolding tilt_toward tilted_when
   not_able_from_reset self r t =
       rw (r.never_ran, first_call_due dt config.guidance.navigation_period_s, able_navigable course state, is_false (able course state) t)

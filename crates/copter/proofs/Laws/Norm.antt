@@ -1,7 +1,8 @@
 -- Where the divider is due from a reset, the stored tilt and capped cannot be read before they are overwritten. `norm` sets them to their fresh values
 -- there and only there. Every call answers the same from a craft and from its `norm`, and leaves the same but for what `norm` sets. Assumes nothing.
+use Rattle.std.specs.Prelude.{None, Option, Some, is_none}
 use mathlib.Core.Path.{◌≡◌, refl, sym, ap, ◌∙◌}
-use mathlib.Core.Bool.{Bool, true, false, not, cond, ◌&&◌}
+use mathlib.Core.Bool.{Bool, false, not, cond, ◌&&◌}
 use mathlib.Core.Logic.{⊎_elim}
 use lib.Dec.{T, eqb, eqb→eq}
 use lib.IntN.{pos, negsuc}
@@ -12,13 +13,12 @@ use Rattle.floats.specs.Ops.{f32}
 use Rattle.math.specs.Vectors.{zeros}
 use Rattle.math.proofs.Laws.Cases.{by_test}
 use Rattle.controllers.specs.declared.rate_divider.RateDivider.{RateDivider}
-use Rattle.controllers.specs.declared.rate_divider.RateDivider.TheVariants.{NeverRan, Elapsed}
 use Rattle.wind.specs.declared.state.VehicleState.{VehicleState}
-use Rattle.wind.specs.declared.window.Filter.{Filter}
 use Rattle.heading.specs.HoverWind as hover
 use Rattle.heading.specs.LegHeading as leg
 use Rattle.heading.specs.declared.hover_wind.HoverWind.{HoverWind}
 use Rattle.heading.specs.declared.leg_heading.Turn.{Turn}
+use Rattle.controllers.specs.RateDivider.{never_ran}
 use Rattle.copter.specs.declared.config.CopterGuidanceConfig.{CopterGuidanceConfig}
 use Rattle.copter.specs.declared.memory.LateralMemory.{LateralMemory}
 use Rattle.copter.specs.declared.memory.Memory.{Memory}
@@ -33,6 +33,7 @@ use Rattle.copter.specs.Guide.{wind_updated, piloted, fly_to, waypoint_call, lan
 use Rattle.copter.proofs.Laws.Calls.{Piloted, waypoint, land, Call, pilot, guide, course}
 use Rattle.copter.proofs.Laws.Calls as calls
 use Rattle.copter.proofs.Laws.Navigation.{FromReset, Agree, AgreeAfter, stored_tilt_unread}
+use Rattle.wind.specs.declared.estimate.WindEstimate.{WindEstimate}
 use Rattle.copter.proofs.Laws.Piloted.{with_lateral, lateral_unread}
 
 -- ---- due from a reset, as a test
@@ -56,32 +57,34 @@ is_zero→zero (fin s m (pos k)) t =
     let k_zero : k ≡ 0 = eqb→eq k 0 (and_r (not s && eqb m 0) (eqb k 0) t) in
     rw (s_false, m_zero, k_zero)
 
-unfoldable pub never_ran : RateDivider → Bool
-never_ran NeverRan = true
-never_ran (Elapsed t) = false
+unfoldable pub has_never_ran : RateDivider → Bool
+has_never_ran rate = is_none rate.elapsed_s
 
-never_ran→ : (rate : RateDivider) → T (never_ran rate) → rate ≡ NeverRan
-unfolding never_ran
-never_ran→ NeverRan t = refl
-never_ran→ (Elapsed e) t = absurd t
+none_never_ran : (since : Option Float) → T (is_none since) → record { elapsed_s = since } ≡ never_ran
+none_never_ran None t = refl
+none_never_ran (Some e) t = absurd t
+
+has_never_ran→ : (rate : RateDivider) → T (has_never_ran rate) → rate ≡ never_ran
+unfolding has_never_ran
+has_never_ran→ rate = none_never_ran rate.elapsed_s
 
 unfoldable pub due_from_reset : LateralMemory → Bool
-due_from_reset self = never_ran self.rate && (is_zero self.requested_accel_mps2.x && is_zero self.requested_accel_mps2.y)
+due_from_reset self = has_never_ran self.rate && (is_zero self.requested_accel_mps2.x && is_zero self.requested_accel_mps2.y)
 
 pub due_from_reset→ : (self : LateralMemory) → T (due_from_reset self) → FromReset self
 unfolding due_from_reset
 due_from_reset→ self t =
     let request = self.requested_accel_mps2 in
-    let zero_request = and_r (never_ran self.rate) (is_zero request.x && is_zero request.y) t in
+    let zero_request = and_r (has_never_ran self.rate) (is_zero request.x && is_zero request.y) t in
     let x_zero : request.x ≡ f32 0 = is_zero→zero request.x (and_l (is_zero request.x) (is_zero request.y) zero_request) in
     let y_zero : request.y ≡ f32 0 = is_zero→zero request.y (and_r (is_zero request.x) (is_zero request.y) zero_request) in
     record {
-      never_ran = never_ran→ self.rate (and_l (never_ran self.rate) (is_zero request.x && is_zero request.y) t);
+      never_ran = has_never_ran→ self.rate (and_l (has_never_ran self.rate) (is_zero request.x && is_zero request.y) t);
       no_request = λ i. record { x = x_zero i; y = y_zero i };
     }
 
 pub due_from_reset← : (self : LateralMemory) → FromReset self → T (due_from_reset self)
-unfolding due_from_reset never_ran is_zero of_bits
+unfolding due_from_reset has_never_ran is_zero of_bits
 due_from_reset← self r = rw (r.never_ran, r.no_request) tt
 
 -- ---- what cannot be read set to its fresh value
@@ -151,7 +154,7 @@ agree_after_same t u h =
       same_norm = ⊎_elim (λ e. ap norm_lateral e) (λ a. agree_same_norm t.memory u.memory a.0) h.memories;
     }
 
-module _ (config : CopterGuidanceConfig) (dt : Float) (course : Course) (estimate : Filter) (state : VehicleState) where
+module _ (config : CopterGuidanceConfig) (dt : Float) (course : Course) (estimate : Option WindEstimate) (state : VehicleState) where
   abbrev after : LateralMemory → Tilted
   after self = tilt_toward self config dt course estimate state
 

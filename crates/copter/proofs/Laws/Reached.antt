@@ -2,7 +2,8 @@
 -- within their limits, the heading target is a float of 32 bits, the divider's elapsed time is at most 16,777,216 s, while the divider has never run the
 -- requested acceleration is zero, the wind's window has fewer than 820 samples and is finite and less than 0.2 s long, and the ground is none or finite.
 -- Assumes nothing.
-use mathlib.Core.Path.{◌≡◌, refl}
+use Rattle.std.specs.Prelude.{None, Option, Some}
+use mathlib.Core.Path.{ap, ◌≡◌, refl}
 use Prim.Native.Nat.{ℕ}
 use native.Mathlib.Omega.{arith}
 use lib.Dec.{T}
@@ -10,11 +11,8 @@ use lib.Ieee.{Float, binary32, fits, of_bits, le}
 use lib.Ieee.Scale.{finite}
 use Rattle.math.specs.Math.{one}
 use Rattle.math.specs.Vectors.{zeros}
-use Rattle.controllers.specs.RateDivider.{due, shortest, Accepted, Bounded}
+use Rattle.controllers.specs.RateDivider.{never_ran, elapsed, due_since, due, shortest, Accepted, Bounded}
 use Rattle.controllers.specs.declared.rate_divider.RateDivider.{RateDivider}
-use Rattle.controllers.specs.declared.rate_divider.RateDivider.TheVariants.{NeverRan, Elapsed}
-use Rattle.controllers.specs.declared.rate_divider.Due.{Due}
-use Rattle.controllers.specs.declared.rate_divider.Due.TheVariants.{Step, NotYet}
 use Rattle.controllers.proofs.Laws.Divider.{accepted→legal, legal_finite, ran_bounded, due_keeps_bound, step_is_legal}
 use Rattle.math.proofs.Laws.Cases.{cond_holds}
 use Rattle.altitude.proofs.Laws.Integral as altitudes
@@ -23,7 +21,6 @@ use Rattle.lateral.specs.Lateral as lateral
 use Rattle.lateral.proofs.Laws.Integral as laterals
 use Rattle.lateral.proofs.Laws.Vectors.{Each}
 use Rattle.wind.specs.declared.state.VehicleState.{VehicleState}
-use Rattle.wind.specs.declared.window.Filter.{Filter}
 use Rattle.heading.specs.declared.leg_heading.Turn.{Turn}
 use Rattle.heading.proofs.Laws.HoverWind.{update_sound}
 use Rattle.heading.proofs.Laws.HoverWind as winds
@@ -44,6 +41,7 @@ use Rattle.copter.specs.Calls.{NoneOrFinite}
 use Rattle.copter.proofs.Laws.Calls.{attitude, absolute_attitude, absolute_rate, waypoint, land, Call, guide, course, call_of, guide_call_of}
 use Rattle.copter.proofs.Laws.Calls as calls
 use Rattle.copter.proofs.Laws.Descent.{waypoint_target_none_or_finite, land_target_none_or_finite}
+use Rattle.wind.specs.declared.estimate.WindEstimate.{WindEstimate}
 use Rattle.copter.proofs.Laws.Heading.{followed_fits, heading_fits}
 
 -- ---- the lateral memory
@@ -51,16 +49,21 @@ use Rattle.copter.proofs.Laws.Heading.{followed_fits, heading_fits}
 -- `limit` is that of its integral
 pub record LateralSound (limit : Float) (self : LateralMemory) : Type 0 where
   pub divider : Bounded self.rate
-  pub no_request : self.rate ≡ NeverRan → self.requested_accel_mps2 ≡ zeros
+  pub no_request : self.rate ≡ never_ran → self.requested_accel_mps2 ≡ zeros
   pub integral : Each (Within limit) self.controller.integrated_error
 
-elapsed_ran : (t : Float) → Elapsed t ≡ NeverRan → ⊥
-elapsed_ran t e = let z : ◌≡◌ {A = ℕ} 0 1 = cc in omega arith
+elapsed_ran : (t : Float) → elapsed t ≡ never_ran → ⊥
+elapsed_ran t e =
+    let since : Some t ≡ None = ap (λ (d : RateDivider). d.elapsed_s) e in
+    let z : ◌≡◌ {A = ℕ} 0 1 = cc in omega arith
 
-due_never_ran : (d : RateDivider) (dt period : Float) → (due d dt period).divider ≡ NeverRan → d ≡ NeverRan
-unfolding due
-due_never_ran NeverRan dt period e = refl
-due_never_ran (Elapsed t) dt period e = absurd (elapsed_ran _ e)
+since_never_ran : (since : Option Float) (dt period : Float) → (due_since since dt period).divider ≡ never_ran → record { elapsed_s = since } ≡ never_ran
+unfolding due_since
+since_never_ran None dt period e = refl
+since_never_ran (Some t) dt period e = absurd (elapsed_ran _ e)
+
+due_never_ran : (d : RateDivider) (dt period : Float) → (due d dt period).divider ≡ never_ran → d ≡ never_ran
+due_never_ran d = since_never_ran d.elapsed_s
 
 module _ (config : CopterGuidanceConfig) (valid : Valid config) where
   abbrev limit : Float
@@ -77,13 +80,13 @@ module _ (config : CopterGuidanceConfig) (valid : Valid config) where
   unfolding reset_lateral
   reset_lateral_sound self = record { divider = tt; no_request = λ _. refl; integral = fresh_integral }
 
-  module _ (self : LateralMemory) (course : Course) (estimate : Filter) (state : VehicleState) where
-    tilted_sound : (step : Due) (rate : RateDivider) → Bounded rate → (rate ≡ NeverRan → self.requested_accel_mps2 ≡ zeros)
-        → ((t : Float) → step ≡ Step t → T (finite t)) → Each (Within limit) self.controller.integrated_error
+  module _ (self : LateralMemory) (course : Course) (estimate : Option WindEstimate) (state : VehicleState) where
+    tilted_sound : (step : Option Float) (rate : RateDivider) → Bounded rate → (rate ≡ never_ran → self.requested_accel_mps2 ≡ zeros)
+        → ((t : Float) → step ≡ Some t → T (finite t)) → Each (Within limit) self.controller.integrated_error
         → LateralSound limit (tilted_when step self rate config course estimate state).memory
     unfolding tilted_when held levelled run
-    tilted_sound NotYet rate b n f w = record { divider = b; no_request = n; integral = w }
-    tilted_sound (Step step) rate b n f w =
+    tilted_sound None rate b n f w = record { divider = b; no_request = n; integral = w }
+    tilted_sound (Some step) rate b n f w =
         cond_holds (λ (t : Tilted). LateralSound limit t.memory) (navigable (lateral_target course) (lateral_estimate state) state.heading_rad)
         (λ _. record {
           divider = ran_bounded;

@@ -1,5 +1,6 @@
 -- What sets the flag of a thrust, when a throttle is idle, and when a craft counts as sinking. A piloted thrust is in [0, 1], and a navigated one is a NaN or from the floor to 1.
 -- Assumes nothing.
+use Rattle.std.specs.Prelude.{None, Option, Some}
 use mathlib.Core.Path.{◌≡◌, refl}
 use mathlib.Core.Bool.{Bool, true, false, not, cond, ◌&&◌, ◌||◌}
 use mathlib.Core.Logic.{inl, inr}
@@ -12,8 +13,6 @@ use Rattle.floats.proofs.Laws.Order.{nan_left, nan_right, le_numbers, lt_numbers
 use Rattle.floats.proofs.Laws.Special.{is_nan_lem}
 use Rattle.math.specs.Math.{zero, one, tilt_boost, guard_sink}
 use Rattle.math.specs.declared.vectors.Quaternion.{Quaternion}
-use Rattle.math.specs.declared.SinkGuard.{SinkGuard}
-use Rattle.math.specs.declared.SinkGuard.TheVariants.{Raised, Off}
 use Rattle.math.proofs.Laws.Cases.{by_test, cond_holds}
 use Rattle.math.proofs.Laws.Limits.{saturate_throttle_in_unit}
 use Rattle.math.proofs.Laws.Thrust.{excess_positive}
@@ -75,7 +74,7 @@ floor_flags_below thrust least = flag_by_test (lt thrust least) least thrust
 abbrev pub sinks_past : Float → ThrustLimits → Bool
 sinks_past climb limits = lt zero limits.sink_limit_mps && lt zero (neg limits.sink_limit_mps ⊖ climb)
 
-guard_by_flag : (b : Bool) (v : Float) (thrust : Thrust) → (guarded_by (cond b (Raised v) Off) thrust).saturated ≡ b || thrust.saturated
+guard_by_flag : (b : Bool) (v : Float) (thrust : Thrust) → (guarded_by (cond b (Some v) None) thrust).saturated ≡ b || thrust.saturated
 unfolding guarded_by
 guard_by_flag true v thrust = refl
 guard_by_flag false v thrust = refl
@@ -158,7 +157,7 @@ floored_in_unit thrust least u r =
 guarded_in_unit : (thrust : Thrust) (climb : Float) (limits : ThrustLimits) → InUnit thrust.value → InUnit (guarded thrust climb limits).value
 unfolding guarded guarded_by guard_sink
 guarded_in_unit thrust climb limits u =
-    cond_holds (λ (g : SinkGuard). InUnit (guarded_by g thrust).value) (sinks_past climb limits) (λ _. saturate_throttle_in_unit _) (λ _. u)
+    cond_holds (λ (g : Option Float). InUnit (guarded_by g thrust).value) (sinks_past climb limits) (λ _. saturate_throttle_in_unit _) (λ _. u)
 
 piloted_in_unit : (throttle : Float) (thrust : Thrust) (climb idle : Float) (limits : ThrustLimits)
     → InUnit thrust.value → T (below_one limits.min_thrust) → InUnit (hold_piloted throttle thrust climb idle limits).value

@@ -1,5 +1,6 @@
 -- The wind of whole calls: every call updates it alike, and two configurations that document 01 accepts lead to a wind that is no number. Assumes
 -- nothing.
+use Rattle.std.specs.Prelude.{Option, Some}
 use mathlib.Core.Path.{◌≡◌, refl, ◌∙◌, ap}
 use mathlib.Core.Bool.{false}
 use lib.Ieee.{Float, nan, inf, of_bits, of_int, round, is_nan, neg, add, sub, mul, div, lt, le}
@@ -13,8 +14,6 @@ use Rattle.math.specs.declared.vectors.Vec2.{Vec2}
 use Rattle.wind.specs.declared.state.VehicleState.{VehicleState}
 use Rattle.wind.specs.declared.drag.WindConfig.{WindConfig}
 use Rattle.wind.specs.declared.estimate.Matrix2.{Matrix2}
-use Rattle.wind.specs.declared.window.Filter.{Filter}
-use Rattle.wind.specs.declared.window.Filter.TheVariants.{Estimate}
 use Rattle.wind.specs.Drag.{is_on, axis_drag, slope, against, air_velocity}
 use Rattle.wind.specs.Estimate.{diagonal, initial, predict, covariance_along, corrected, correct}
 use Rattle.wind.specs.Sample.{rotation, body_axes, specific_force_ned, sample_finite, along, from_state}
@@ -31,6 +30,7 @@ use Rattle.copter.specs.Guide.{wind_updated, piloted, attitude_call, absolute_at
 use Rattle.copter.specs.Guide.{new_craft, prime, wind_reading}
 use Rattle.controllers.specs.Checks.{check_limit, check_positive, check_unit_interval, check_tilt}
 use Rattle.copter.proofs.Laws.Calls.{attitude, absolute_attitude, absolute_rate, waypoint, land, Call, guide}
+use Rattle.wind.specs.declared.estimate.WindEstimate.{WindEstimate}
 use Rattle.copter.proofs.Laws.Calls as calls
 
 -- ---- every call updates the wind alike, and keeps the configuration
@@ -132,11 +132,11 @@ abbrev pushed_wind : HoverWind
 pushed_wind = update (update primed_wind eighth gateless one pushed) eighth gateless one pushed
 
 -- an estimate with this velocity, whatever its covariance
-abbrev pub Blows : Filter → Vec2 → Type 0
-Blows wind velocity = (p : Matrix2) × (wind ≡ Estimate (record { velocity_mps = velocity; covariance_m2ps2 = p }))
+abbrev pub Blows : Option WindEstimate → Vec2 → Type 0
+Blows wind velocity = (p : Matrix2) × (wind ≡ Some (record { velocity_mps = velocity; covariance_m2ps2 = p }))
 
 computed : (hover.estimate (update primed_wind one noiseless one hovering)
-    ≡ Estimate (record { velocity_mps = record { x = nan; y = nan }; covariance_m2ps2 = record { m00 = nan; m01 = nan; m10 = nan; m11 = nan } }))
+    ≡ Some (record { velocity_mps = record { x = nan; y = nan }; covariance_m2ps2 = record { m00 = nan; m01 = nan; m10 = nan; m11 = nan } }))
     × Blows (hover.estimate pushed_wind) (record { x = inf false; y = nan })
     × Blows (hover.estimate (update pushed_wind one gateless one hovering)) (record { x = inf false; y = nan })
 unfolding noiseless gateless update hover.prime hover.fresh airborne above latched estimators.fresh estimators.update taken gathered grown empty mean
@@ -158,7 +158,7 @@ module _ (wind : WindConfig) (self : CopterGuidance) (dt : Float) (state : Vehic
 -- the velocity and the covariance, after any call one second long
 pub noiseless_wind_is_nan : (call : Call)
     → wind_reading (guide (primed noiseless) one hovering call).craft
-    ≡ Estimate (record { velocity_mps = record { x = nan; y = nan }; covariance_m2ps2 = record { m00 = nan; m01 = nan; m10 = nan; m11 = nan } })
+    ≡ Some (record { velocity_mps = record { x = nan; y = nan }; covariance_m2ps2 = record { m00 = nan; m01 = nan; m10 = nan; m11 = nan } })
 unfolding wind_reading prime new_craft
 noiseless_wind_is_nan call =
     ap hover.estimate (next_wind noiseless (primed noiseless) one hovering call primed_wind refl (primed_memory noiseless)) ∙ computed.0

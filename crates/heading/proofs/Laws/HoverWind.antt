@@ -1,4 +1,5 @@
 -- Wind memory: what a priming leaves of it, when an update leaves all of it, and what holds of it from a fresh one on. Assumes nothing.
+use Rattle.std.specs.Prelude.{None, Some}
 use mathlib.Core.Path.{◌≡◌, ◌∙◌}
 use mathlib.Core.Bool.{true, false}
 use lib.Ieee.{Float, lt}
@@ -6,7 +7,6 @@ use lib.Ieee.Scale.{finite}
 use Rattle.floats.specs.Ops.{◌⊕◌}
 use Rattle.wind.specs.declared.state.VehicleState.{VehicleState}
 use Rattle.wind.specs.declared.drag.WindConfig.{WindConfig}
-use Rattle.heading.specs.declared.hover_wind.GroundAltitude.TheVariants.{Nothing, Metres}
 use Rattle.heading.specs.declared.hover_wind.HoverWind.{HoverWind}
 use Rattle.wind.specs.Drag.{is_on}
 use Rattle.wind.specs.Wind as wind
@@ -19,12 +19,12 @@ use Rattle.wind.proofs.Laws.Window.{fresh_open, update_open}
 
 -- ---- in the air
 
-pub unprimed_not_airborne : (self : HoverWind) (height : Float) (state : VehicleState) → self.ground_altitude_m ≡ Nothing
+pub unprimed_not_airborne : (self : HoverWind) (height : Float) (state : VehicleState) → self.ground_altitude_m ≡ None
     → airborne self height state ≡ false
 unfolding airborne
 unprimed_not_airborne self height state e = rw e
 
-pub airborne_above : (self : HoverWind) (height : Float) (state : VehicleState) (ground : Float) → self.ground_altitude_m ≡ Metres ground
+pub airborne_above : (self : HoverWind) (height : Float) (state : VehicleState) (ground : Float) → self.ground_altitude_m ≡ Some ground
     → airborne self height state ≡ lt (ground ⊕ height) state.position_m.z
 unfolding airborne
 airborne_above self height state ground e = rw e
@@ -42,15 +42,15 @@ pub prime_grounded : (self : HoverWind) (height : Float) (state : VehicleState) 
 unfolding prime fresh airborne above
 prime_grounded self height state e = rw e
 
-pub prime_above : (self : HoverWind) (height : Float) (state : VehicleState) (ground : Float) → self.ground_altitude_m ≡ Metres ground
+pub prime_above : (self : HoverWind) (height : Float) (state : VehicleState) (ground : Float) → self.ground_altitude_m ≡ Some ground
     → lt (ground ⊕ height) state.position_m.z ≡ true → prime self height state ≡ self
 prime_above self height state ground g e = prime_airborne self height state (airborne_above self height state ground g ∙ e)
 
-pub prime_not_above : (self : HoverWind) (height : Float) (state : VehicleState) (ground : Float) → self.ground_altitude_m ≡ Metres ground
+pub prime_not_above : (self : HoverWind) (height : Float) (state : VehicleState) (ground : Float) → self.ground_altitude_m ≡ Some ground
     → lt (ground ⊕ height) state.position_m.z ≡ false → prime self height state ≡ prime fresh height state
 prime_not_above self height state ground g e = prime_grounded self height state (airborne_above self height state ground g ∙ e)
 
-pub prime_unprimed : (self : HoverWind) (height : Float) (state : VehicleState) → self.ground_altitude_m ≡ Nothing
+pub prime_unprimed : (self : HoverWind) (height : Float) (state : VehicleState) → self.ground_altitude_m ≡ None
     → prime self height state ≡ prime fresh height state
 prime_unprimed self height state e = prime_grounded self height state (unprimed_not_airborne self height state e)
 

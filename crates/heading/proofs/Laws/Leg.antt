@@ -1,4 +1,5 @@
 -- The leg in a waypoint call: which positions are new, what a new one does, and that a finite commanded heading resets all. Assumes nothing.
+use Rattle.std.specs.Prelude.{None, Option, Some}
 use mathlib.Core.Path.{◌≡◌, refl, ◌∙◌}
 use mathlib.Core.Bool.{true, false}
 use lib.Ieee.{Float}
@@ -6,15 +7,10 @@ use lib.Ieee.Scale.{finite}
 use Rattle.math.specs.Math.{zero, all_finite}
 use Rattle.math.specs.declared.vectors.Vec2.{Vec2}
 use Rattle.wind.specs.declared.state.VehicleState.{VehicleState}
-use Rattle.wind.specs.declared.window.Filter.{Filter}
 use Rattle.math.proofs.Laws.Cases.{cond_holds}
 use Rattle.heading.specs.declared.HeadingConfig.{HeadingConfig}
-use Rattle.heading.specs.declared.Angle.{Angle}
-use Rattle.heading.specs.declared.Angle.TheVariants.{Nothing, Rad}
 use Rattle.heading.specs.declared.wind_heading.WindTurn.{WindTurn}
 use Rattle.heading.specs.declared.leg_heading.Leg.{Leg}
-use Rattle.heading.specs.declared.leg_heading.LegMemory.{LegMemory}
-use Rattle.heading.specs.declared.leg_heading.LegMemory.TheVariants as legs
 use Rattle.heading.specs.declared.leg_heading.LegHeading.{LegHeading}
 use Rattle.heading.specs.declared.leg_heading.Turn.{Turn}
 use Rattle.heading.specs.declared.leg_heading.Bearing.{Bearing}
@@ -22,6 +18,7 @@ use Rattle.heading.specs.declared.leg_heading.Yielded.{Yielded}
 use Rattle.heading.specs.Equality.{same_vector}
 use Rattle.heading.specs.LegHeading.{New, started, fresh, cleared, with_wind, on_leg, new_leg, bearing_of, bearing, may_yield, stuck_for, counted}
 use Rattle.heading.specs.LegHeading.{yielded, along_leg, wind_or_leg, here_of, wind_turn, uncommanded, finite_angle, target}
+use Rattle.wind.specs.declared.estimate.WindEstimate.{WindEstimate}
 use Rattle.heading.proofs.Laws.Equality.{vector_numbers, vector_same_itself, nan_vector_differs}
 
 -- ---- which positions are on a leg
@@ -42,27 +39,27 @@ own_position_on_leg leg e = same_position_on_leg leg leg.to_m (vector_same_itsel
 
 -- ---- which positions are new
 
-pub new_without_leg : (self : LegHeading) (position : Vec2) → self.leg ≡ legs.Nothing → New self.leg position
+pub new_without_leg : (self : LegHeading) (position : Vec2) → self.leg ≡ None → New self.leg position
 new_without_leg self position e = rw e tt
 
-pub nan_position_new : (leg : LegMemory) (position : Vec2) → vector_numbers position ≡ false → New leg position
-nan_position_new legs.Nothing position e = tt
-nan_position_new (legs.Flown leg) position e = nan_position_off_leg leg position e
+pub nan_position_new : (leg : Option Leg) (position : Vec2) → vector_numbers position ≡ false → New leg position
+nan_position_new None position e = tt
+nan_position_new (Some leg) position e = nan_position_off_leg leg position e
 
 -- ---- the leg after a look at the position
 
-bearing_of_new : (leg : LegMemory) (self : LegHeading) (config : HeadingConfig) (position here : Vec2) → New leg position
+bearing_of_new : (leg : Option Leg) (self : LegHeading) (config : HeadingConfig) (position here : Vec2) → New leg position
     → bearing_of leg self config position here ≡ new_leg self config position here
 unfolding bearing_of
-bearing_of_new legs.Nothing self config position here n = refl
-bearing_of_new (legs.Flown leg) self config position here n = rw n
+bearing_of_new None self config position here n = refl
+bearing_of_new (Some leg) self config position here n = rw n
 
 module _ (self : LegHeading) (config : HeadingConfig) (position here : Vec2) where
   pub bearing_new : New self.leg position → bearing self config position here ≡ new_leg self config position here
   unfolding bearing
   bearing_new = bearing_of_new self.leg self config position here
 
-  pub bearing_on_leg : (leg : Leg) → self.leg ≡ legs.Flown leg → on_leg leg position ≡ true
+  pub bearing_on_leg : (leg : Leg) → self.leg ≡ Some leg → on_leg leg position ≡ true
       → bearing self config position here ≡ record { memory = self; bearing_rad = leg.bearing_rad }
   unfolding bearing
   bearing_on_leg leg e o = rw (e, o)
@@ -75,7 +72,7 @@ module _ (self : LegHeading) (config : HeadingConfig) (position here : Vec2) whe
 
   pub new_leg_starts : all_finite here ≡ true
       → (new_leg self config position here).memory
-      ≡ record { leg = legs.Flown (started config position here); stuck_s = zero; yielding = false; wind = self.wind }
+      ≡ record { leg = Some (started config position here); stuck_s = zero; yielding = false; wind = self.wind }
   unfolding new_leg
   new_leg_starts e = rw e
 
@@ -94,23 +91,23 @@ pub record Call : Type 0 where
   pub dt : Float
   pub heading : Float
   pub position : Vec2
-  pub commanded : Angle
-  pub estimate : Filter
+  pub commanded : Option Float
+  pub estimate : Option WindEstimate
   pub state : VehicleState
 
 -- with no finite commanded heading
 abbrev pub Uncommanded : Call → Type 0
-Uncommanded call = finite_angle call.commanded ≡ Nothing
+Uncommanded call = finite_angle call.commanded ≡ None
 
-pub no_heading_uncommanded : finite_angle Nothing ≡ Nothing
+pub no_heading_uncommanded : finite_angle None ≡ None
 unfolding finite_angle
 no_heading_uncommanded = refl
 
-pub not_finite_uncommanded : (heading : Float) → finite heading ≡ false → finite_angle (Rad heading) ≡ Nothing
+pub not_finite_uncommanded : (heading : Float) → finite heading ≡ false → finite_angle (Some heading) ≡ None
 unfolding finite_angle
 not_finite_uncommanded heading e = rw e
 
-pub finite_commanded : (heading : Float) → finite heading ≡ true → finite_angle (Rad heading) ≡ Rad heading
+pub finite_commanded : (heading : Float) → finite heading ≡ true → finite_angle (Some heading) ≡ Some heading
 unfolding finite_angle
 finite_commanded heading e = rw e
 
@@ -125,11 +122,11 @@ yielded_keeps m dt config heading state =
     {y = counted m (stuck_for m.stuck_s dt config heading state) config} (λ _. (refl, refl)) (λ _. (refl, refl)))
     (λ _. (refl, refl))
 
-wind_or_leg_keeps : (to : Angle) (m : LegHeading) (dt : Float) (config : HeadingConfig) (heading : Float) (b : Angle) (state : VehicleState)
+wind_or_leg_keeps : (to : Option Float) (m : LegHeading) (dt : Float) (config : HeadingConfig) (heading : Float) (b : Option Float) (state : VehicleState)
     → ((wind_or_leg to m dt config heading b state).memory.leg ≡ m.leg) × ((wind_or_leg to m dt config heading b state).memory.wind ≡ m.wind)
 unfolding wind_or_leg along_leg
-wind_or_leg_keeps Nothing m dt config heading b state = yielded_keeps m dt config heading state
-wind_or_leg_keeps (Rad to) m dt config heading b state = (refl, refl)
+wind_or_leg_keeps None m dt config heading b state = yielded_keeps m dt config heading state
+wind_or_leg_keeps (Some to) m dt config heading b state = (refl, refl)
 
 abbrev pub called : HeadingConfig → LegHeading → Call → Turn
 called config self call = target self call.dt config call.heading call.position call.commanded call.estimate call.state
@@ -142,7 +139,7 @@ abbrev pub wind_of : HeadingConfig → LegHeading → Call → WindTurn
 wind_of config self call = wind_turn (leg_of config self call) config call.position call.estimate call.state
 
 module _ (config : HeadingConfig) (self : LegHeading) (call : Call) where
-  pub commanded_resets : (heading : Float) → finite_angle call.commanded ≡ Rad heading → (called config self call).memory ≡ fresh
+  pub commanded_resets : (heading : Float) → finite_angle call.commanded ≡ Some heading → (called config self call).memory ≡ fresh
   unfolding target
   commanded_resets heading e = rw e
 
@@ -179,11 +176,11 @@ module _ (config : HeadingConfig) (self : LegHeading) (call : Call) where
           rw (bearing_new self config call.position (here_of call.state) new) (new_leg_ends_yielding self config call.position (here_of call.state))
 
       pub new_position_starts_leg : all_finite (here_of call.state) ≡ true
-          → (called config self call).memory.leg ≡ legs.Flown (started config call.position (here_of call.state))
+          → (called config self call).memory.leg ≡ Some (started config call.position (here_of call.state))
       new_position_starts_leg e =
           rw (call_leg, bearing_new self config call.position (here_of call.state) new, new_leg_starts self config call.position (here_of call.state) e)
 
-      pub new_position_no_leg : all_finite (here_of call.state) ≡ false → (called config self call).memory.leg ≡ legs.Nothing
+      pub new_position_no_leg : all_finite (here_of call.state) ≡ false → (called config self call).memory.leg ≡ None
       unfolding cleared
       new_position_no_leg e =
           rw (call_leg, bearing_new self config call.position (here_of call.state) new, new_leg_none self config call.position (here_of call.state) e)
@@ -193,6 +190,6 @@ module _ (config : HeadingConfig) (self : LegHeading) (call : Call) where
     nan_position_as_cleared e = new_position_as_cleared (nan_position_new self.leg call.position e)
 
     -- on the leg it is kept
-    pub call_on_leg : (leg : Leg) → self.leg ≡ legs.Flown leg → on_leg leg call.position ≡ true
-        → (called config self call).memory.leg ≡ legs.Flown leg
+    pub call_on_leg : (leg : Leg) → self.leg ≡ Some leg → on_leg leg call.position ≡ true
+        → (called config self call).memory.leg ≡ Some leg
     call_on_leg leg e o = rw (call_leg, bearing_on_leg self config call.position (here_of call.state) leg e o) e

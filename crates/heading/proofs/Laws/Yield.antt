@@ -1,5 +1,6 @@
 -- Yielding: the yield count is a sum of time steps while the heading is stuck and 0 when it is not, yielding starts with the first count above the
 -- yield time, and it lasts until the position changes. Assumes nothing.
+use Rattle.std.specs.Prelude.{None, Option, Some}
 use mathlib.Core.Path.{◌≡◌, refl, sym}
 use mathlib.Core.Bool.{Bool, true, false, cond, ◌&&◌}
 use mathlib.Core.List.{List, [], ◌∷◌, foldl}
@@ -9,18 +10,15 @@ use Rattle.floats.specs.Ops.{◌⊕◌, ◌⊖◌, ◌⊗◌}
 use Rattle.floats.specs.Compare.{abs, signum}
 use Rattle.math.specs.Math.{zero, all_finite, wrap_angle}
 use Rattle.wind.specs.declared.state.VehicleState.{VehicleState}
-use Rattle.wind.specs.declared.window.Filter.{Filter}
 use Rattle.math.proofs.Laws.Feed.{kept_by_calls}
 use Rattle.heading.specs.declared.HeadingConfig.{HeadingConfig}
-use Rattle.heading.specs.declared.Angle.{Angle}
-use Rattle.heading.specs.declared.Angle.TheVariants.{Nothing, Rad}
 use Rattle.heading.specs.declared.wind_heading.WindHeading.{WindHeading}
 use Rattle.heading.specs.declared.leg_heading.Leg.{Leg}
-use Rattle.heading.specs.declared.leg_heading.LegMemory.TheVariants as legs
 use Rattle.heading.specs.declared.leg_heading.LegHeading.{LegHeading}
 use Rattle.heading.specs.LegHeading.{New, started, with_wind, on_leg, may_yield, stuck, stuck_for, counted, yielded}
 use Rattle.heading.specs.LegHeading.{along_leg, wind_or_leg, here_of, station_turn}
 use Rattle.heading.proofs.Laws.WindHeading.{off_moves_nothing}
+use Rattle.wind.specs.declared.estimate.WindEstimate.{WindEstimate}
 use Rattle.heading.proofs.Laws.Leg.{bearing_new, bearing_on_leg, new_leg_starts, Call, Uncommanded, called, leg_of, wind_of, call_uncommanded, call_on_leg}
 
 -- ---- the count in one call
@@ -86,11 +84,11 @@ handed config self call = with_wind (leg_of config self call).memory (wind_of co
 
 module _ (config : HeadingConfig) (self : LegHeading) (call : Call) (none : Uncommanded call) where
   -- turned with the wind it is not counted
-  pub wind_turn_not_counted : (to : Float) → (wind_of config self call).target_rad ≡ Rad to → (called config self call).memory ≡ handed config self call
+  pub wind_turn_not_counted : (to : Float) → (wind_of config self call).target_rad ≡ Some to → (called config self call).memory ≡ handed config self call
   unfolding wind_or_leg
   wind_turn_not_counted to e = rw (call_uncommanded config self call none, e)
 
-  module _ (no_wind : (wind_of config self call).target_rad ≡ Nothing) where
+  module _ (no_wind : (wind_of config self call).target_rad ≡ None) where
     pub call_along_leg : called config self call
         ≡ along_leg (handed config self call) call.dt config call.heading (leg_of config self call).bearing_rad call.state
     unfolding wind_or_leg
@@ -125,11 +123,11 @@ module _ (config : HeadingConfig) (self : LegHeading) (call : Call) (none : Unco
 
 -- ---- yielding lasts until the position changes
 
-turn_keeps_yielding : (to : Angle) (m : LegHeading) (dt : Float) (config : HeadingConfig) (heading : Float) (b : Angle) (state : VehicleState)
+turn_keeps_yielding : (to : Option Float) (m : LegHeading) (dt : Float) (config : HeadingConfig) (heading : Float) (b : Option Float) (state : VehicleState)
     → m.yielding ≡ true → (wind_or_leg to m dt config heading b state).memory.yielding ≡ true
 unfolding wind_or_leg along_leg
-turn_keeps_yielding Nothing m dt config heading b state y = yielding_stays m dt config heading state y
-turn_keeps_yielding (Rad to) m dt config heading b state y = y
+turn_keeps_yielding None m dt config heading b state y = yielding_stays m dt config heading state y
+turn_keeps_yielding (Some to) m dt config heading b state y = y
 
 -- A call with no finite commanded heading, at a position of the leg.
 pub record LegCall (leg : Leg) : Type 0 where
@@ -142,7 +140,7 @@ after config self next = (called config self next.call).memory
 
 -- The leg is flown, and its heading is yielded.
 pub record Yielding (leg : Leg) (self : LegHeading) : Type 0 where
-  pub flown : self.leg ≡ legs.Flown leg
+  pub flown : self.leg ≡ Some leg
   pub yields : self.yielding ≡ true
 
 module _ (config : HeadingConfig) (leg : Leg) where
@@ -162,7 +160,7 @@ module _ (config : HeadingConfig) (leg : Leg) where
         record { flown = call_on_leg config self call next.uncommanded leg y.flown next.on; yields = stays }
 
     -- where the wind gives no heading, the answer is the craft's own
-    pub yielding_leg_answers_own_heading : (wind_of config self next.call).target_rad ≡ Nothing → may_yield config next.call.state ≡ true
+    pub yielding_leg_answers_own_heading : (wind_of config self next.call).target_rad ≡ None → may_yield config next.call.state ≡ true
         → (called config self next.call).heading_rad ≡ next.call.state.heading_rad
     yielding_leg_answers_own_heading no_wind may = rw (yielding_answers_own_heading config self next.call next.uncommanded no_wind may handed_yielding)
 
@@ -197,8 +195,8 @@ NeverAbove {config} count (next ∷ calls) =
     (lt config.heading_yield_s (count_longer count next) ≡ false) × NeverAbove (count_longer count next) calls
 
 module _ (config : HeadingConfig) (off : lt zero config.wind_heading_min_mps ≡ false) (timed : lt zero config.heading_yield_s ≡ true) where
-  station_off : (holds : Bool) (memory : WindHeading) (estimate : Filter) (heading : Float)
-      → station_turn holds memory config estimate heading ≡ record { wind = memory; target_rad = Nothing }
+  station_off : (holds : Bool) (memory : WindHeading) (estimate : Option WindEstimate) (heading : Float)
+      → station_turn holds memory config estimate heading ≡ record { wind = memory; target_rad = None }
   unfolding station_turn
   station_off true memory estimate heading = off_moves_nothing memory config estimate heading off
   station_off false memory estimate heading = refl
@@ -219,7 +217,7 @@ module _ (config : HeadingConfig) (off : lt zero config.wind_heading_min_mps ≡
       → all_finite (here_of call.state) ≡ true
       → (called config self call).memory
       ≡ with_count config
-      (record { leg = legs.Flown (started config call.position (here_of call.state)); stuck_s = zero; yielding = false; wind = self.wind })
+      (record { leg = Some (started config call.position (here_of call.state)); stuck_s = zero; yielding = false; wind = self.wind })
       (zero ⊕ call.dt)
   first_call_counts self call none s n f =
       let here = here_of call.state in
@@ -228,7 +226,7 @@ module _ (config : HeadingConfig) (off : lt zero config.wind_heading_min_mps ≡
       rw (counts self call none s (rw (e, starts)), e, starts)
 
   module _ (leg : Leg) where
-    pub stuck_call_counts : (self : LegHeading) (next : StuckCall config leg) → self.leg ≡ legs.Flown leg → self.yielding ≡ false
+    pub stuck_call_counts : (self : LegHeading) (next : StuckCall config leg) → self.leg ≡ Some leg → self.yielding ≡ false
         → stuck_after self next ≡ with_count config self (count_longer self.stuck_s next)
     stuck_call_counts self next l y =
         let call = next.leg_call.call in
@@ -236,7 +234,7 @@ module _ (config : HeadingConfig) (off : lt zero config.wind_heading_min_mps ≡
         rw (counts self call next.leg_call.uncommanded next.stuck_heading (rw e y), e)
 
     -- While no count is above the yield time, every call is counted and none yields.
-    pub stuck_calls_count : (self : LegHeading) (calls : List (StuckCall config leg)) → self.leg ≡ legs.Flown leg → self.yielding ≡ false
+    pub stuck_calls_count : (self : LegHeading) (calls : List (StuckCall config leg)) → self.leg ≡ Some leg → self.yielding ≡ false
         → NeverAbove self.stuck_s calls
         → foldl stuck_after self calls ≡ record { leg = self.leg; stuck_s = count_after self.stuck_s calls; yielding = false; wind = self.wind }
     stuck_calls_count self [] l y n = rw (← y)
@@ -245,7 +243,7 @@ module _ (config : HeadingConfig) (off : lt zero config.wind_heading_min_mps ≡
         (stuck_calls_count (with_count config self (count_longer self.stuck_s next)) calls l n.0 n.1)
 
     -- The call after them yields exactly if its count is above.
-    pub yields_with_first_above : (self : LegHeading) (calls : List (StuckCall config leg)) (next : StuckCall config leg) → self.leg ≡ legs.Flown leg
+    pub yields_with_first_above : (self : LegHeading) (calls : List (StuckCall config leg)) (next : StuckCall config leg) → self.leg ≡ Some leg
         → self.yielding ≡ false → NeverAbove self.stuck_s calls
         → stuck_after (foldl stuck_after self calls) next ≡ with_count config self (count_longer (count_after self.stuck_s calls) next)
     yields_with_first_above self calls next l y n =
@@ -264,4 +262,4 @@ module _ (config : HeadingConfig) (off : lt zero config.wind_heading_min_mps ≡
       let leg = started config first.position (here_of first.state) in
       rw (first_call_counts self first none s n f)
       (yields_with_first_above leg
-      (with_count config (record { leg = legs.Flown leg; stuck_s = zero; yielding = false; wind = self.wind }) (zero ⊕ first.dt)) calls next refl below never)
+      (with_count config (record { leg = Some leg; stuck_s = zero; yielding = false; wind = self.wind }) (zero ⊕ first.dt)) calls next refl below never)

@@ -8,7 +8,7 @@ use lib.Ieee.Bits.{is_true, is_false}
 use Rattle.math.specs.Math.{cap_magnitude, all_finite}
 use Rattle.math.specs.Vectors.{zeros, minus}
 use Rattle.math.specs.declared.vectors.Vec2.{Vec2}
-use Rattle.controllers.specs.declared.derivative.DerivativeState.TheVariants.{Empty}
+use Rattle.controllers.specs.Derivative.{no_history}
 use Rattle.lateral.specs.declared.LateralControllerConfig.{LateralControllerConfig}
 use Rattle.lateral.specs.declared.LateralTarget.{LateralTarget}
 use Rattle.lateral.specs.declared.LateralEstimate.{LateralEstimate}
@@ -20,7 +20,7 @@ use Rattle.lateral.specs.Lateral.{max_speed, desired_velocity, shape, tracked, n
 -- what `after` is, from the controller before it and what shaping gives in any call
 pub record Neutral (before : LateralController) (shaping : Shaping) (after : LateralControl) : Type 0 where
   pub no_acceleration : after.accel_mps2 ≡ zeros
-  pub derivative_forgotten : after.controller.derivative ≡ Empty
+  pub derivative_forgotten : after.controller.derivative ≡ no_history
   pub integral_kept : after.controller.integrated_error ≡ before.integrated_error
   pub shaped_as_ever : after.controller.shaped_velocity_mps ≡ shaping.shaped_velocity_mps
   pub commanded_kept : after.controller.commanded_velocity_mps ≡ before.commanded_velocity_mps

@@ -1,12 +1,8 @@
--- `lateral::max_speed` meets its contract. Assumes nothing.
-use lib.Ieee.{of_bits, div}
+-- `lateral::max_speed` meets its contract: the constant is the infinity. Assumes nothing.
+use lib.Ieee.{of_bits}
 use Rattle.lateral.specs.Lateral.{max_speed}
 use Rattle.lateral.proofs.max_speed.Goals as goal
 
-pub returns-then-max_speed_mps : goal.returns-then-max_speed_mps
-unfolding max_speed
-returns-then-max_speed_mps c = rw c.if-max_speed_mps.true
-
 pub returns : goal.returns
-unfolding max_speed of_bits div
+unfolding max_speed of_bits
 returns c = rw c.if-max_speed_mps.false

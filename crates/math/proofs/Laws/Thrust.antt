@@ -1,5 +1,6 @@
 -- The tilt boost is between 0 and 2. The sink guard is off unless the craft sinks past a positive limit, and then raises the thrust to within [0, 1].
 -- Assumes nothing.
+use Rattle.std.specs.Prelude.{None, Some}
 use mathlib.Core.Path.{◌≡◌, sym, subst, ◌∙◌}
 use mathlib.Core.Bool.{Bool, true, false, not, ◌&&◌, cond}
 use Prim.Native.Nat.{ℕ}
@@ -16,7 +17,6 @@ use Rattle.floats.proofs.Laws.MinMax.{max_ge_right, max_keeps, clamp_at_least, c
 use Rattle.floats.proofs.Laws.Product.{div_number, div_nonneg, div_mono, div_anti, finite_factors}
 use Rattle.floats.proofs.Laws.Sum.{sub_pos, sub_above_zero, finite_parts}
 use Rattle.math.specs.declared.vectors.Quaternion.{Quaternion}
-use Rattle.math.specs.declared.SinkGuard.TheVariants.{Raised, Off}
 use Rattle.math.specs.Math.{zero, tenth, half, one, two, tilt_cosine, tilt_boost, guard_sink, saturate_throttle}
 use Rattle.math.proofs.Laws.Cases.{by_test}
 use Rattle.math.proofs.Laws.Limits.{positive_not_zero, saturate_throttle_in_unit}
@@ -35,19 +35,19 @@ excess_positive climb limit p q =
 -- what is raised, and by how much
 pub guard_by_test : (thrust climb limit gain : Float) → T (fits binary32 climb) → T (fits binary32 limit)
     → guard_sink thrust climb limit gain
-    ≡ cond (lt zero limit && lt climb (neg limit)) (Raised (saturate_throttle (thrust ⊕ gain ⊗ (neg limit ⊖ climb)))) Off
+    ≡ cond (lt zero limit && lt climb (neg limit)) (Some (saturate_throttle (thrust ⊕ gain ⊗ (neg limit ⊖ climb)))) None
 unfolding guard_sink
 guard_by_test thrust climb limit gain p q = rw (excess_positive climb limit p q)
 
-off_is_not_raised : (v : Float) → Off ≡ Raised v → ⊥
+off_is_not_raised : (v : Float) → None ≡ Some v → ⊥
 off_is_not_raised v p = let z : ◌≡◌ {A = ℕ} 0 1 = cc in omega arith
 
-raised_by_test : (b : Bool) (u v : Float) → cond b (Raised u) Off ≡ Raised v → T b × (u ≡ v)
+raised_by_test : (b : Bool) (u v : Float) → cond b (Some u) None ≡ Some v → T b × (u ≡ v)
 raised_by_test true u v p = (tt, cc)
 raised_by_test false u v p = absurd (off_is_not_raised v p)
 
 pub guard_raises_past_limit : (thrust climb limit gain v : Float) → T (fits binary32 climb) → T (fits binary32 limit)
-    → guard_sink thrust climb limit gain ≡ Raised v → T (lt zero limit) × T (lt climb (neg limit)) × T (le zero v) × T (le v one)
+    → guard_sink thrust climb limit gain ≡ Some v → T (lt zero limit) × T (lt climb (neg limit)) × T (le zero v) × T (le v one)
 guard_raises_past_limit thrust climb limit gain v p q e =
     let w = thrust ⊕ gain ⊗ (neg limit ⊖ climb) in
     let a = lt zero limit in
@@ -57,7 +57,7 @@ guard_raises_past_limit thrust climb limit gain v p q e =
     (and_l a b r.0, and_r a b r.0, rw (← r.1) u.0, rw (← r.1) u.1)
 
 pub guard_off_at_limit : (thrust climb limit gain : Float) → T (fits binary32 climb) → T (fits binary32 limit)
-    → T (not (lt zero limit && lt climb (neg limit))) → guard_sink thrust climb limit gain ≡ Off
+    → T (not (lt zero limit && lt climb (neg limit))) → guard_sink thrust climb limit gain ≡ None
 guard_off_at_limit thrust climb limit gain p q h = guard_by_test thrust climb limit gain p q ∙ rw (is_false (lt zero limit && lt climb (neg limit)) h)
 
 -- ---- the tilt boost

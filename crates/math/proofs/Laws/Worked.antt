@@ -1,4 +1,5 @@
 -- The worked flights of document 01 about these definitions: W1, W2, W5, W6 and W7. Each holds by computation. Assumes nothing.
+use Rattle.std.specs.Prelude.{None, Some}
 use mathlib.Core.Path.{◌≡◌, refl}
 use mathlib.Core.Bool.{false}
 use lib.Ieee.{Float, nan, inf, neg, of_bits, add, sub, mul, div, rem, lt, le, is_nan}
@@ -7,7 +8,6 @@ use Rattle.floats.specs.MinMax.{max, clamp}
 use Rattle.floats.specs.Sqrt.{sqrt, root_of, whole_root, root_digits}
 use Rattle.math.specs.declared.vectors.Vec2.{Vec2}
 use Rattle.math.specs.declared.vectors.Quaternion.{Quaternion}
-use Rattle.math.specs.declared.SinkGuard.TheVariants.{Raised, Off}
 use Rattle.math.specs.Vectors.{zeros}
 use Rattle.math.specs.Math.{zero, half, one, two, wrap_angle, rem_euclid, tilt_boost, tilt_cosine, guard_sink, saturate_throttle, cap_magnitude}
 use Rattle.math.specs.Math.{shaped_closing_speed, braked_speed}
@@ -51,11 +51,11 @@ closing_without_p = refl
 
 -- ---- W6: thrust 0.5, limit 2, gain 0.25 (3E800000), climb -3 (C0400000) and -2
 
-pub guard_past_limit : guard_sink half (f32 0xC040_0000) two (f32 0x3E80_0000) ≡ Raised (f32 0x3F40_0000)
+pub guard_past_limit : guard_sink half (f32 0xC040_0000) two (f32 0x3E80_0000) ≡ Some (f32 0x3F40_0000)
 unfolding guard_sink saturate_throttle clamp neg add sub mul lt is_nan of_bits
 guard_past_limit = refl
 
-pub guard_at_limit : guard_sink half (neg two) two (f32 0x3E80_0000) ≡ Off
+pub guard_at_limit : guard_sink half (neg two) two (f32 0x3E80_0000) ≡ None
 unfolding guard_sink neg add sub mul lt is_nan of_bits
 guard_at_limit = refl
 

@@ -1,6 +1,5 @@
 -- `math::surely_reaches` meets its contract. Assumes nothing.
 use mathlib.Core.Path.{sym, ◌∙◌}
-use mathlib.Core.Bool.{true≢false}
 use Rattle.math.proofs.Laws.Reached.{told_reached}
 use Rattle.math.proofs.surely_reaches.Goals as goal
 
@@ -8,18 +7,3 @@ pub returns-then-has_plain_square : goal.returns-then-has_plain_square
 returns-then-has_plain_square c h =
     told_reached _ _ _ c.if-distance_m.true c.if-p.true c.if-accel_mps2.true c.if-linear_m-distance_m.true _ c.well_formed.1.1.1.0.1
     (sym c.has_plain_square.ensures ∙ c.if-has_plain_square.true) h
-
-pub returns-else-has_plain_square : goal.returns-else-has_plain_square
-returns-else-has_plain_square c h = absurd (true≢false (sym h))
-
-pub returns-else-linear_m-distance_m : goal.returns-else-linear_m-distance_m
-returns-else-linear_m-distance_m c h = absurd (true≢false (sym h))
-
-pub returns-else-accel_mps2 : goal.returns-else-accel_mps2
-returns-else-accel_mps2 c h = absurd (true≢false (sym h))
-
-pub returns-else-p : goal.returns-else-p
-returns-else-p c h = absurd (true≢false (sym h))
-
-pub returns-else-distance_m : goal.returns-else-distance_m
-returns-else-distance_m c h = absurd (true≢false (sym h))

@@ -1,12 +1,13 @@
 -- What a record comes to. Where the buffer has room, its answer, its craft and the bytes that it takes come of the craft and the bytes alone. It takes
 -- no more bytes than there are, at least one unless it ends the flight, in which case it takes none, and writes 25 bytes at most; what follows a whole record does not change it.
 -- Assumes nothing.
+use Rattle.std.specs.Prelude.{None, Option, Some, Result, Ok, Err}
 use Rattle.std.proofs.lemmas.Bool.{cond_both}
 use Prim.Native.Nat.{ℕ, zero, suc, ◌-◌, ◌≤◌}
 use mathlib.Core.Path.{◌≡◌, refl, sym, ap, ◌∙◌}
 use mathlib.Core.Bool.{Bool, true, false, not, cond, ◌&&◌, ◌||◌, true≢false}
 use mathlib.Core.List.{List, ◌++◌}
-use mathlib.Core.Option.{none}
+use Rattle.std.specs.Prelude.{None, Option}
 use native.Mathlib.Omega.{arith}
 use borrow.Author.Tests.{ltb-false, eqb-false, le-ltb, le-leb, lt-leb, ne_eqb}
 use lib.Dec.{T, leb, ltb, eqb}
@@ -14,16 +15,13 @@ use lib.ListN.{length, take, drop, length-append, length-drop, get_or-append}
 use lib.Seq.{take-append-le, drop-append-le, take-append_seam}
 use lib.Ieee.{Float}
 use Rattle.wind.specs.declared.state.VehicleState.{VehicleState}
-use Rattle.wind.specs.declared.window.Filter.{Filter}
-use Rattle.wind.specs.declared.window.Filter.TheVariants as filters
+use Rattle.copter.specs.declared.config.CopterGuidanceConfig.{CopterGuidanceConfig}
 use Rattle.copter.specs.Guide.{guide_call, wind_reading}
 use Rattle.copter.specs.declared.commands.Flags.{Flags}
 use Rattle.copter.specs.declared.commands.Setpoint.{Setpoint}
 use Rattle.copter.specs.declared.commands.Setpoint.TheVariants as setpoints
 use Rattle.copter.specs.declared.memory.CopterGuidance.{CopterGuidance}
 use Rattle.copter.specs.declared.commands.Command.{Command}
-use Rattle.records.specs.declared.craft.Guidance.{Guidance}
-use Rattle.records.specs.declared.craft.Guidance.TheVariants.{Unconfigured, Configured}
 use Rattle.records.specs.declared.craft.Craft.{Craft}
 use Rattle.records.specs.declared.answer.Refusal.{Refusal}
 use Rattle.records.specs.declared.answer.Refusal.TheVariants as refusals
@@ -35,19 +33,17 @@ use Rattle.records.specs.declared.kinds.Kind.{Kind}
 use Rattle.records.specs.declared.kinds.Kind.TheVariants as kinds
 use Rattle.records.specs.declared.read.Input.{Input}
 use Rattle.records.specs.declared.read.Input.TheVariants as inputs
-use Rattle.records.specs.declared.read.Read.{Read}
-use Rattle.records.specs.declared.read.Read.TheVariants as reading
-use Rattle.records.specs.declared.read.Configuration.{Configuration}
-use Rattle.records.specs.declared.read.Configuration.TheVariants.{Of, Broken}
-use Rattle.records.specs.declared.read.CommandRead.{CommandRead}
-use Rattle.records.specs.declared.read.CommandRead.TheVariants as commanded
 use Rattle.records.specs.Answer.{number, is_none, refusal_of, accepted, setpoint_bytes, refusal_bytes, answer_bytes}
-use Rattle.records.specs.Layout.{byte_at}
+use Rattle.records.specs.Layout.{byte_at, floats_from}
 use Rattle.records.specs.Kinds.{kind_of, body_length, command_start}
-use Rattle.records.specs.Read.{command, state, time_step_ok, heading_ok, configuration, call_input, read}
+use Rattle.copter.specs.Config.{field_count, lowest}
+use Rattle.records.specs.declared.kinds.Call.{Call}
+use Rattle.records.specs.declared.kinds.Call.TheVariants as calls
+use Rattle.records.specs.Read.{marks_ok, command, state, time_step_ok, heading_ok, configuration, call_input, read}
 use Rattle.records.specs.Step.{setpoint_answer, wind_answer, guided, perform, Verdict, Accepted, Refused, configure, told, serve}
 use Rattle.records.specs.Step.{Judged, untaken, with_body, with_kind, judged, Outcome, answer_of, answered, answer_room, step}
 use Rattle.records.specs.Flight.{ends_flight, cut_short}
+use Rattle.wind.specs.declared.estimate.WindEstimate.{WindEstimate}
 use Rattle.records.specs.Total.{last_kind, takes_none}
 
 -- Where there is room, the outcome is what the record comes to, written.
@@ -97,10 +93,9 @@ neither false b e = (refl, e)
 -- ---- the kinds
 
 -- no kind of record
-abbrev pub unknown : Kind → Bool
-unknown kinds.Configure = false
-unknown (kinds.InFlight _) = false
-unknown kinds.Unknown = true
+abbrev pub unknown : Option Kind → Bool
+unknown (Some kind) = false
+unknown None = true
 
 -- The kinds are 1 to 9.
 pub unknown_byte : (byte : ℕ) → unknown (kind_of byte) ≡ not (leb 1 byte && leb byte last_kind)
@@ -118,34 +113,32 @@ unknown_byte (suc (suc (suc (suc (suc (suc (suc (suc (suc zero))))))))) = refl
 unknown_byte (suc (suc (suc (suc (suc (suc (suc (suc (suc (suc n)))))))))) =
     let byte = suc (suc (suc (suc (suc (suc (suc (suc (suc (suc n))))))))) in rw (lt-leb byte last_kind (omega arith), le-leb 1 byte (omega arith))
 
-pub known_kind : (kind : Kind) (guidance : Guidance) (rest : List ℕ) → unknown kind ≡ false
+pub known_kind : (kind : Option Kind) (guidance : Option CopterGuidance) (rest : List ℕ) → unknown kind ≡ false
     → with_kind kind guidance rest ≡ with_body kind guidance rest
 unfolding with_kind
-known_kind kinds.Configure guidance rest e = refl
-known_kind (kinds.InFlight _) guidance rest e = refl
-known_kind kinds.Unknown guidance rest e = absurd (true≢false e)
+known_kind (Some kind) guidance rest e = refl
+known_kind None guidance rest e = absurd (true≢false e)
 
 -- ---- what a record comes to
 
 -- a record of a kind with its whole body
-abbrev pub served : Kind → Guidance → List ℕ → Judged
+abbrev pub served : Option Kind → Option CopterGuidance → List ℕ → Judged
 served kind guidance rest = let needed = body_length kind in record { verdict = serve kind guidance (take needed rest); taken = suc needed }
 
-module _ (P : Judged → Type 0) (guidance : Guidance) (bytes : List ℕ) (short : P (untaken refusals.Short)) where
-  with_body_cases : (kind : Kind) → 1 ≤ length bytes → (suc (body_length kind) ≤ length bytes → P (served kind guidance (drop 1 bytes)))
+module _ (P : Judged → Type 0) (guidance : Option CopterGuidance) (bytes : List ℕ) (short : P (untaken refusals.Short)) where
+  with_body_cases : (kind : Option Kind) → 1 ≤ length bytes → (suc (body_length kind) ≤ length bytes → P (served kind guidance (drop 1 bytes)))
       → P (with_body kind guidance (drop 1 bytes))
   with_body_cases kind some whole =
       let rest = drop 1 bytes in
       cond_both (ltb (length rest) (body_length kind)) _ _ P (λ cut. short)
       (λ enough. whole (omega (arith, ltb-false (length rest) (body_length kind) enough, length-drop 1 bytes)))
 
-  with_kind_cases : P (untaken refusals.Kind) → (kind : Kind) → 1 ≤ length bytes
+  with_kind_cases : P (untaken refusals.Kind) → (kind : Option Kind) → 1 ≤ length bytes
       → (unknown kind ≡ false → suc (body_length kind) ≤ length bytes → P (served kind guidance (drop 1 bytes)))
       → P (with_kind kind guidance (drop 1 bytes))
   unfolding with_kind
-  with_kind_cases strange kinds.Configure some whole = with_body_cases kinds.Configure some (whole refl)
-  with_kind_cases strange (kinds.InFlight kind) some whole = with_body_cases (kinds.InFlight kind) some (whole refl)
-  with_kind_cases strange kinds.Unknown some whole = strange
+  with_kind_cases strange (Some kind) some whole = with_body_cases (Some kind) some (whole refl)
+  with_kind_cases strange None some whole = strange
 
   -- A record is cut short, of no known kind, or whole.
   pub judged_cases : P (untaken refusals.Kind) →
@@ -157,7 +150,7 @@ module _ (P : Judged → Type 0) (guidance : Guidance) (bytes : List ℕ) (short
       cond_both (eqb (length bytes) 0) _ _ P (λ empty. short)
       (λ some. let none_missing = eqb-false (length bytes) 0 some in with_kind_cases strange (kind_of (byte_at bytes 0)) (omega arith) whole)
 
-pub judged_whole : (guidance : Guidance) (bytes : List ℕ) →
+pub judged_whole : (guidance : Option CopterGuidance) (bytes : List ℕ) →
     let kind = kind_of (byte_at bytes 0) in
     unknown kind ≡ false → suc (body_length kind) ≤ length bytes → judged guidance bytes ≡ served kind guidance (drop 1 bytes)
 unfolding judged
@@ -181,7 +174,7 @@ complete_served craft bytes buffer complete =
     step_judged craft bytes buffer complete.room
     ∙ ap (λ (j : Judged). answered craft j buffer) (judged_whole craft.guidance bytes complete.is_known complete.whole)
 
-in_flight_told : (kind : Kind) (in_flight : InFlight) → kind ≡ kinds.InFlight in_flight → (guidance : Guidance) (body : List ℕ)
+in_flight_told : (kind : Option Kind) (in_flight : InFlight) → kind ≡ Some (kinds.InFlight in_flight) → (guidance : Option CopterGuidance) (body : List ℕ)
     → serve kind guidance body ≡ told guidance (read in_flight body)
 unfolding serve
 in_flight_told kind in_flight is guidance body = rw is
@@ -190,7 +183,7 @@ in_flight_told kind in_flight is guidance body = rw is
 pub complete_told : (craft : Craft) (bytes buffer : List ℕ) → Complete bytes buffer → (in_flight : InFlight) →
     let kind = kind_of (byte_at bytes 0) in
     let needed = body_length kind in
-    kind ≡ kinds.InFlight in_flight
+    kind ≡ Some (kinds.InFlight in_flight)
     → step craft bytes buffer
     ≡ answered craft (record { verdict = told craft.guidance (read in_flight (take needed (drop 1 bytes))); taken = suc needed }) buffer
 complete_told craft bytes buffer complete in_flight is =
@@ -223,7 +216,7 @@ unfolding answer_of
 untaken_takes bytes refusal ends =
     record { within = omega arith; moves = λ (goes_on : ends_flight (answers.Refused refusal) ≡ false). absurd (true≢false (sym ends ∙ goes_on)) }
 
-pub judged_takes : (guidance : Guidance) (bytes : List ℕ) → Takes bytes (judged guidance bytes)
+pub judged_takes : (guidance : Option CopterGuidance) (bytes : List ℕ) → Takes bytes (judged guidance bytes)
 judged_takes guidance bytes =
     judged_cases (Takes bytes) guidance bytes (untaken_takes bytes refusals.Short refl) (untaken_takes bytes refusals.Kind refl)
     (λ is_known whole. record { within = whole; moves = λ goes_on. omega arith })
@@ -257,22 +250,21 @@ step_counted craft bytes buffer room =
 
 -- ---- what a record does not look at
 
-with_body_prefix : (kind : Kind) (guidance : Guidance) (rest more : List ℕ) → body_length kind ≤ length rest
+with_body_prefix : (kind : Option Kind) (guidance : Option CopterGuidance) (rest more : List ℕ) → body_length kind ≤ length rest
     → with_body kind guidance (rest ++ more) ≡ with_body kind guidance rest
 with_body_prefix kind guidance rest more enough =
     let needed = body_length kind in
     let longer : needed ≤ length (rest ++ more) = omega (arith, length-append rest more) in
     rw (le-ltb (length (rest ++ more)) needed longer, le-ltb (length rest) needed enough, take-append-le needed rest more enough)
 
-with_kind_prefix : (kind : Kind) (guidance : Guidance) (rest more : List ℕ) → body_length kind ≤ length rest
+with_kind_prefix : (kind : Option Kind) (guidance : Option CopterGuidance) (rest more : List ℕ) → body_length kind ≤ length rest
     → with_kind kind guidance (rest ++ more) ≡ with_kind kind guidance rest
 unfolding with_kind
-with_kind_prefix kinds.Configure guidance rest more enough = with_body_prefix kinds.Configure guidance rest more enough
-with_kind_prefix (kinds.InFlight kind) guidance rest more enough = with_body_prefix (kinds.InFlight kind) guidance rest more enough
-with_kind_prefix kinds.Unknown guidance rest more enough = refl
+with_kind_prefix (Some kind) guidance rest more enough = with_body_prefix (Some kind) guidance rest more enough
+with_kind_prefix None guidance rest more enough = refl
 
 -- What follows a whole record does not change it.
-pub judged_prefix : (guidance : Guidance) (bytes more : List ℕ) → 1 ≤ length bytes → cut_short bytes ≡ false
+pub judged_prefix : (guidance : Option CopterGuidance) (bytes more : List ℕ) → 1 ≤ length bytes → cut_short bytes ≡ false
     → judged guidance (bytes ++ more) ≡ judged guidance bytes
 unfolding judged cut_short
 judged_prefix guidance bytes more some not_short =
@@ -301,18 +293,18 @@ nothing_past_a_record craft bytes more buffer room some not_short =
 
 -- ---- what a whole record is answered
 
-setpoint_accepted : (setpoint : Setpoint) (flags : Flags) → refusal_of (setpoint_answer setpoint flags) ≡ none
+setpoint_accepted : (setpoint : Setpoint) (flags : Flags) → refusal_of (setpoint_answer setpoint flags) ≡ None
 unfolding setpoint_answer
 setpoint_accepted (setpoints.Attitude s) flags = refl
 setpoint_accepted (setpoints.BodyRate s) flags = refl
 
-reading_accepted : (reading : Filter) → refusal_of (wind_answer reading) ≡ none
+reading_accepted : (reading : Option WindEstimate) → refusal_of (wind_answer reading) ≡ None
 unfolding wind_answer
-reading_accepted filters.Nothing = refl
-reading_accepted (filters.Estimate estimate) = refl
+reading_accepted None = refl
+reading_accepted (Some estimate) = refl
 
 -- Performing never refuses.
-pub perform_accepted : (g : CopterGuidance) (input : Input) → refusal_of (perform g input).answer ≡ none
+pub perform_accepted : (g : CopterGuidance) (input : Input) → refusal_of (perform g input).answer ≡ None
 unfolding perform guided
 perform_accepted g (inputs.Prime state) = refl
 perform_accepted g (inputs.Call dt state command) = setpoint_accepted (guide_call g dt state command).setpoint _
@@ -320,56 +312,68 @@ perform_accepted g inputs.Wind = reading_accepted (wind_reading g)
 
 -- an accepted answer, or a refusal that takes the record
 abbrev pub TakesRecord : Verdict → Type 0
-TakesRecord (Accepted g answer) = refusal_of answer ≡ none
+TakesRecord (Accepted g answer) = refusal_of answer ≡ None
 TakesRecord (Refused refusal) = takes_none (number refusal) ≡ false
 
 -- the same of what a body says
-abbrev TakesBody : Read → Type 0
-TakesBody (reading.Input input) = Unit {0}
-TakesBody (reading.Refused refusal) = takes_none (number refusal) ≡ false
+abbrev TakesBody : {A : Type 0} → Result A Refusal → Type 0
+TakesBody (Ok said) = Unit {0}
+TakesBody (Err refusal) = takes_none (number refusal) ≡ false
 
 -- whatever its checks say
 checked_takes : (command : Command) (dt : Float) (state : VehicleState) (t h : Bool) → time_step_ok dt ≡ t → heading_ok state.heading_rad ≡ h
-    → TakesBody (call_input (commanded.Command command) dt state)
+    → TakesBody (call_input (Ok command) dt state)
 unfolding call_input
 checked_takes command dt state true true in_time headed = simp (in_time, headed) tt
 checked_takes command dt state true false in_time turned = simp (in_time, turned) refl
 checked_takes command dt state false true late headed = simp (late, headed) refl
 checked_takes command dt state false false late turned = simp (late, turned) refl
 
-call_takes : (commanded : CommandRead) (dt : Float) (state : VehicleState) → TakesBody (call_input commanded dt state)
+command_takes : (call : Call) (part : List ℕ) → TakesBody (command call part)
+unfolding command
+command_takes calls.Attitude part = tt
+command_takes calls.Waypoint part = cond_both (marks_ok part) _ _ TakesBody (λ marked. tt) (λ unmarked. refl)
+command_takes calls.AbsoluteAttitude part = tt
+command_takes calls.Land part = tt
+command_takes calls.AbsoluteRate part = tt
+
+call_takes : (commanded : Result Command Refusal) (dt : Float) (state : VehicleState) → TakesBody commanded → TakesBody (call_input commanded dt state)
 unfolding call_input
-call_takes commanded.BadMark dt state = refl
-call_takes (commanded.Command command) dt state =
+call_takes (Err refusal) dt state takes = takes
+call_takes (Ok command) dt state takes =
     checked_takes command dt state (time_step_ok dt) (heading_ok state.heading_rad) refl refl
 
 read_takes : (kind : InFlight) (body : List ℕ) → TakesBody (read kind body)
 unfolding read
 read_takes flights.Prime body = cond_both (heading_ok (state body).heading_rad) _ _ TakesBody (λ headed. tt) (λ turned. refl)
-read_takes (flights.Call call) body = call_takes (command call (drop command_start body)) _ _
+read_takes (flights.Call call) body = call_takes (command call (drop command_start body)) _ _ (command_takes call _)
 read_takes flights.Rate body = refl
 read_takes flights.Wind body = tt
 
-told_takes : (guidance : Guidance) (said : Read) → TakesBody said → TakesRecord (told guidance said)
+told_takes : (guidance : Option CopterGuidance) (said : Result Input Refusal) → TakesBody said → TakesRecord (told guidance said)
 unfolding told
-told_takes Unconfigured said takes = refl
-told_takes (Configured g) (reading.Input input) takes = perform_accepted g input
-told_takes (Configured g) (reading.Refused refusal) takes = takes
+told_takes None said takes = refl
+told_takes (Some g) (Ok input) takes = perform_accepted g input
+told_takes (Some g) (Err refusal) takes = takes
 
-configure_takes : (said : Configuration) → TakesRecord (configure said)
+configuration_takes : (body : List ℕ) → TakesBody (configuration body)
+unfolding configuration
+configuration_takes body = cond_both (leb (lowest (floats_from 0 field_count body) 1 field_count) field_count) _ _ TakesBody (λ breaks. refl) (λ none_breaks. tt)
+
+configure_takes : (said : Result CopterGuidanceConfig Refusal) → TakesBody said → TakesRecord (configure said)
 unfolding configure
-configure_takes (Of config) = refl
-configure_takes (Broken field) = refl
+configure_takes (Ok config) takes = refl
+configure_takes (Err refusal) takes = takes
 
-pub serve_takes : (kind : Kind) (guidance : Guidance) (body : List ℕ) → unknown kind ≡ false → TakesRecord (serve kind guidance body)
+pub serve_takes : (kind : Option Kind) (guidance : Option CopterGuidance) (body : List ℕ) → unknown kind ≡ false → TakesRecord (serve kind guidance body)
 unfolding serve
-serve_takes kinds.Configure guidance body e = configure_takes (configuration body)
-serve_takes (kinds.InFlight kind) guidance body e = told_takes guidance (read kind body) (read_takes kind body)
-serve_takes kinds.Unknown guidance body e = absurd (true≢false e)
+serve_takes (Some kinds.Configure) guidance body e = configure_takes (configuration body) (configuration_takes body)
+serve_takes (Some (kinds.InFlight kind)) guidance body e = told_takes guidance (read kind body) (read_takes kind body)
+serve_takes None guidance body e = absurd (true≢false e)
 
 -- ---- what ends a flight
 
-accepted_goes_on : (answer : Answer) → refusal_of answer ≡ none → ends_flight answer ≡ false
+accepted_goes_on : (answer : Answer) → refusal_of answer ≡ None → ends_flight answer ≡ false
 accepted_goes_on (answers.Attitude setpoint flags) e = refl
 accepted_goes_on (answers.BodyRate setpoint flags) e = refl
 accepted_goes_on (answers.Refused refusal) e = absurd (true≢false (sym (ap is_none e)))
@@ -383,7 +387,7 @@ taken_goes_on (Accepted g answer) takes = accepted_goes_on answer takes
 taken_goes_on (Refused refusal) takes = (neither (ends_flight (answers.Refused refusal)) (eqb (number refusal) 9) takes).0
 
 -- A record whose body is whole does not end the flight.
-pub whole_goes_on : (kind : Kind) (guidance : Guidance) (body : List ℕ) → unknown kind ≡ false
+pub whole_goes_on : (kind : Option Kind) (guidance : Option CopterGuidance) (body : List ℕ) → unknown kind ≡ false
     → ends_flight (answer_of (serve kind guidance body)) ≡ false
 whole_goes_on kind guidance body is_known = taken_goes_on (serve kind guidance body) (serve_takes kind guidance body is_known)
 

@@ -1,6 +1,7 @@
 -- The claims over lists of records are not empty: document 01's worked flight has an accepted configure, a priming and an ending call as the claim over whole feeds
 -- asks for them. After its configure and its priming, a priming above the ground and a record of each other kind but 4 are accepted too. `examples` computes each, and `flight_forgets` is the claim of that flight. Its
 -- configuration is the Rust's default one, but for the wind. Assumes nothing.
+use Rattle.std.specs.Prelude.{None, Ok}
 use mathlib.Core.Path.{◌≡◌, refl}
 use mathlib.Core.Bool.{true, false}
 use mathlib.Core.Logic.{inl, inr}
@@ -16,14 +17,11 @@ use Rattle.math.specs.Vectors.{zeros}
 use Rattle.controllers.specs.Checks.{check_limit, check_positive, check_unit_interval, check_tilt}
 use Rattle.wind.specs.Wind as wind
 use Rattle.heading.specs.HoverWind as hover
-use Rattle.heading.specs.declared.Angle.TheVariants as angles
 use Rattle.copter.specs.Config.{below_one, above_descending, up_to_pi, field_count, defaults, rule, lowest, config_of, default_config}
 use Rattle.copter.specs.Thrust.{clip_thrust, floor_thrust, guarded, hold_piloted, hold_absolute}
 use Rattle.copter.specs.Memory.{fresh}
 use Rattle.copter.specs.Guide.{heading_target, command_heading, piloted_flags, attitude_call, absolute_attitude_call, absolute_rate_call}
 use Rattle.copter.specs.Guide.{fly_to, waypoint_call, land_call, guide_call, new_craft, prime, wind_reading}
-use Rattle.copter.specs.declared.commands.TargetVelocity.TheVariants as velocities
-use Rattle.records.specs.declared.read.Configuration.TheVariants as configurations
 use Rattle.records.specs.Answer.{setpoint_bytes, answer_bytes}
 use Rattle.records.specs.Craft.{unconfigured}
 use Rattle.records.specs.Layout.{float_at, floats_from, number, laid}
@@ -48,10 +46,10 @@ navigating =
     ++ waypoint_values (record { velocity = zeros; heading = zero })
     (record {
       position_m = zeros;
-      velocity_mps = velocities.Nothing;
+      velocity_mps = None;
       altitude_m = zero;
       cruise_speed_mps = zero;
-      heading_rad = angles.Nothing;
+      heading_rad = None;
     }))
 
 -- T 0.5, the state, and a landing at (0, 0)
@@ -116,7 +114,7 @@ examples =
 -- ---- the configuration of the flight
 
 -- What the bytes of its fields say is the configuration of its fields,
-pub worked_configuration : configuration (laid (map number worked_fields)) ≡ configurations.Of (config_of worked_fields)
+pub worked_configuration : configuration (laid (map number worked_fields)) ≡ Ok (config_of worked_fields)
 unfolding
     configuration worked_fields laid floats_from float_at lowest rule config_of defaults
     check_limit check_positive check_unit_interval check_tilt below_one above_descending up_to_pi lt le of_bits to_bits

@@ -1,5 +1,7 @@
 -- "What each call does" holds of every list of records from an unconfigured craft: `facts`. An accepted record comes to what its kind and its body
 -- say, and the craft held is one that primings and calls lead to from a valid configuration. Assumes nothing.
+use Rattle.records.specs.declared.answer.Refusal.{Refusal}
+use Rattle.std.specs.Prelude.{None, Option, Some, Result, Ok, Err}
 use Prim.Native.Nat.{ℕ}
 use mathlib.Core.Path.{◌≡◌, refl, sym, ap, subst, ◌∙◌}
 use mathlib.Core.Bool.{cond}
@@ -14,8 +16,6 @@ use Rattle.copter.proofs.Laws.Facts.{each_craft, each_call}
 use Rattle.copter.proofs.Laws.Reached.{Reached, primed, reached_guided}
 use Rattle.copter.proofs.Laws.Reached as reached
 use Rattle.copter.proofs.Laws.Wind.{guide_keeps_config}
-use Rattle.records.specs.declared.craft.Guidance.{Guidance}
-use Rattle.records.specs.declared.craft.Guidance.TheVariants.{Unconfigured, Configured}
 use Rattle.records.specs.declared.craft.Craft.{Craft}
 use Rattle.records.specs.declared.answer.Refusal.TheVariants as refusals
 use Rattle.records.specs.declared.answer.Answer.{Answer}
@@ -25,10 +25,6 @@ use Rattle.records.specs.declared.kinds.Kind.{Kind}
 use Rattle.records.specs.declared.kinds.Kind.TheVariants as kinds
 use Rattle.records.specs.declared.read.Input.{Input}
 use Rattle.records.specs.declared.read.Input.TheVariants as inputs
-use Rattle.records.specs.declared.read.Read.{Read}
-use Rattle.records.specs.declared.read.Read.TheVariants as reading
-use Rattle.records.specs.declared.read.Configuration.{Configuration}
-use Rattle.records.specs.declared.read.Configuration.TheVariants.{Of, Broken}
 use Rattle.records.specs.Answer.{accepted}
 use Rattle.records.specs.Craft.{unconfigured}
 use Rattle.records.specs.Kinds.{kind_of}
@@ -89,13 +85,13 @@ module _ (craft : Craft) (entry : Entry) where
   unfolding step answered
   comes_to is ok = let same = whole ok ∙ is in (ap (craft_after craft) same, ap answer_of same)
 
-served_configure : (kind : Kind) (guidance : Guidance) (body : List ℕ) (config : CopterGuidanceConfig) → kind ≡ kinds.Configure
-    → configuration body ≡ Of config → serve kind guidance body ≡ steps.Accepted (new_craft config) answers.Done
+served_configure : (kind : Option Kind) (guidance : Option CopterGuidance) (body : List ℕ) (config : CopterGuidanceConfig) → kind ≡ Some kinds.Configure
+    → configuration body ≡ Ok config → serve kind guidance body ≡ steps.Accepted (new_craft config) answers.Done
 unfolding serve configure
 served_configure kind guidance body config is says = rw (is, says)
 
-served_input : (kind : Kind) (guidance : Guidance) (body : List ℕ) (k : InFlight) (g : CopterGuidance) (input : Input) → kind ≡ kinds.InFlight k
-    → guidance ≡ Configured g → read k body ≡ reading.Input input → serve kind guidance body ≡ steps.Accepted (leaves g input) (answers_to g input)
+served_input : (kind : Option Kind) (guidance : Option CopterGuidance) (body : List ℕ) (k : InFlight) (g : CopterGuidance) (input : Input) → kind ≡ Some (kinds.InFlight k)
+    → guidance ≡ Some g → read k body ≡ Ok input → serve kind guidance body ≡ steps.Accepted (leaves g input) (answers_to g input)
 unfolding serve told
 served_input kind guidance body k g input is holds says = rw (is, holds, says) (performed_so g input)
 
@@ -120,25 +116,25 @@ module _ (first : List Entry) (entry : Entry) where
   abbrev body : List ℕ
   body = body_of entry
 
-  as_configure : kind_of (kind_byte entry) ≡ kinds.Configure → (said : Configuration) → configuration body ≡ said
+  as_configure : kind_of (kind_byte entry) ≡ Some kinds.Configure → (said : Result CopterGuidanceConfig Refusal) → configuration body ≡ said
       → T (accepted (answer_of (configure said))) → AcceptedAs first entry
   unfolding configure answer_of
-  as_configure is (Of config) says ok = a_configure config (record { of_kind = is; says = says })
-  as_configure is (Broken field) says ok = absurd ok
+  as_configure is (Ok config) says ok = a_configure config (record { of_kind = is; says = says })
+  as_configure is (Err refusal) says ok = absurd ok
 
-  as_input : (k : InFlight) → kind_of (kind_byte entry) ≡ kinds.InFlight k → (guidance : Guidance) → (machine first).guidance ≡ guidance
-      → (said : Read) → read k body ≡ said → T (accepted (answer_of (told guidance said))) → AcceptedAs first entry
+  as_input : (k : InFlight) → kind_of (kind_byte entry) ≡ Some (kinds.InFlight k) → (guidance : Option CopterGuidance) → (machine first).guidance ≡ guidance
+      → (said : Result Input Refusal) → read k body ≡ said → T (accepted (answer_of (told guidance said))) → AcceptedAs first entry
   unfolding told answer_of
-  as_input k is Unconfigured holds said says ok = absurd ok
-  as_input k is (Configured g) holds (reading.Input input) says ok = an_input g input (record { holds = holds; kind = k; of_kind = is; says = says })
-  as_input k is (Configured g) holds (reading.Refused refusal) says ok = absurd ok
+  as_input k is None holds said says ok = absurd ok
+  as_input k is (Some g) holds (Ok input) says ok = an_input g input (record { holds = holds; kind = k; of_kind = is; says = says })
+  as_input k is (Some g) holds (Err refusal) says ok = absurd ok
 
-  as_kind : (kind : Kind) → kind_of (kind_byte entry) ≡ kind → T (accepted (answer_of (serve kind (machine first).guidance body)))
+  as_kind : (kind : Option Kind) → kind_of (kind_byte entry) ≡ kind → T (accepted (answer_of (serve kind (machine first).guidance body)))
       → AcceptedAs first entry
   unfolding serve answer_of
-  as_kind kinds.Configure is ok = as_configure is (configuration body) refl ok
-  as_kind (kinds.InFlight k) is ok = as_input k is (machine first).guidance refl (read k body) refl ok
-  as_kind kinds.Unknown is ok = absurd ok
+  as_kind (Some kinds.Configure) is ok = as_configure is (configuration body) refl ok
+  as_kind (Some (kinds.InFlight k)) is ok = as_input k is (machine first).guidance refl (read k body) refl ok
+  as_kind None is ok = absurd ok
 
   accepted_as : Accepted (machine first) entry → AcceptedAs first entry
   accepted_as ok = as_kind (kind_of (kind_byte entry)) refl (rw (comes_to (machine first) entry refl ok).1 at ok)
@@ -146,9 +142,9 @@ module _ (first : List Entry) (entry : Entry) where
 -- ---- every craft
 
 -- no craft, or one that is reached
-abbrev HeldReached : Guidance → Type 0
-HeldReached Unconfigured = Unit {0}
-HeldReached (Configured held) = Reached held
+abbrev HeldReached : Option CopterGuidance → Type 0
+HeldReached None = Unit {0}
+HeldReached (Some held) = Reached held
 
 -- a refusal, or a craft that is reached
 abbrev VerdictReached : Verdict → Type 0
@@ -158,27 +154,27 @@ VerdictReached (steps.Refused refusal) = Unit {0}
 abbrev JudgedReached : Judged → Type 0
 JudgedReached j = VerdictReached j.verdict
 
-configure_reached : (said : Configuration) → ConfigurationValid said → VerdictReached (configure said)
+configure_reached : (said : Result CopterGuidanceConfig Refusal) → ConfigurationValid said → VerdictReached (configure said)
 unfolding configure
-configure_reached (Of config) valid = reached.configured config valid
-configure_reached (Broken field) valid = tt
+configure_reached (Ok config) valid = reached.configured config valid
+configure_reached (Err refusal) valid = tt
 
 leaves_reached : (g : CopterGuidance) (input : Input) → InputFits input → Reached g → Reached (leaves g input)
 leaves_reached g (inputs.Prime state) fit r = primed state fit r
 leaves_reached g (inputs.Call dt state command) fit r = reached_guided r dt state command fit.0
 leaves_reached g inputs.Wind fit r = r
 
-told_reached : (guidance : Guidance) (said : Read) → HeldReached guidance → ReadFits said → VerdictReached (told guidance said)
+told_reached : (guidance : Option CopterGuidance) (said : Result Input Refusal) → HeldReached guidance → ReadFits said → VerdictReached (told guidance said)
 unfolding told
-told_reached Unconfigured said r fit = tt
-told_reached (Configured g) (reading.Input input) r fit = subst VerdictReached (sym (performed_so g input)) (leaves_reached g input fit r)
-told_reached (Configured g) (reading.Refused refusal) r fit = tt
+told_reached None said r fit = tt
+told_reached (Some g) (Ok input) r fit = subst VerdictReached (sym (performed_so g input)) (leaves_reached g input fit r)
+told_reached (Some g) (Err refusal) r fit = tt
 
-serve_reached : (kind : Kind) (guidance : Guidance) (body : List ℕ) → HeldReached guidance → VerdictReached (serve kind guidance body)
+serve_reached : (kind : Option Kind) (guidance : Option CopterGuidance) (body : List ℕ) → HeldReached guidance → VerdictReached (serve kind guidance body)
 unfolding serve
-serve_reached kinds.Configure guidance body r = configure_reached (configuration body) (configuration_valid body)
-serve_reached (kinds.InFlight k) guidance body r = told_reached guidance (read k body) r (read_fits k body)
-serve_reached kinds.Unknown guidance _ r = tt
+serve_reached (Some kinds.Configure) guidance body r = configure_reached (configuration body) (configuration_valid body)
+serve_reached (Some (kinds.InFlight k)) guidance body r = told_reached guidance (read k body) r (read_fits k body)
+serve_reached None guidance _ r = tt
 
 craft_reached : (craft : Craft) (verdict : Verdict) → HeldReached craft.guidance → VerdictReached verdict
     → HeldReached (craft_after craft verdict).guidance
@@ -199,7 +195,7 @@ unfolding after
 after_reached craft [] r = r
 after_reached craft (entry ∷ entries) r = after_reached (outcome craft entry).craft entries (outcome_reached craft entry r)
 
-pub machine_reached : (entries : List Entry) (held : CopterGuidance) → (machine entries).guidance ≡ Configured held → Reached held
+pub machine_reached : (entries : List Entry) (held : CopterGuidance) → (machine entries).guidance ≡ Some held → Reached held
 unfolding unconfigured
 machine_reached entries held holds = subst HeldReached holds (after_reached unconfigured entries tt)
 

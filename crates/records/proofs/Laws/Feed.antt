@@ -1,5 +1,7 @@
 -- The claim over whole feeds holds: `whole_feeds`. Two crafts that differ in no more than what cannot be read answer every list alike, and an ending call
 -- leaves a craft that differs in no more than that from the reset one. Assumes nothing.
+use Rattle.records.specs.declared.answer.Refusal.{Refusal}
+use Rattle.std.specs.Prelude.{None, Option, Some, Result, Ok, Err}
 use Prim.Native.Nat.{ℕ, suc}
 use mathlib.Core.Path.{◌≡◌, refl, sym, ap, ◌∙◌}
 use mathlib.Core.Bool.{Bool, true, false, cond}
@@ -26,8 +28,6 @@ use Rattle.copter.specs.declared.memory.CopterGuidance.{CopterGuidance}
 use Rattle.copter.proofs.Laws.Calls.{call_of, guide_call_of}
 use Rattle.copter.proofs.Laws.Norm.{norm, norm_craft, norm_guided, fresh_with, piloted_leaves_fresh}
 use Rattle.copter.proofs.Laws.Norm.{call_from_norm, norm_fresh, prime_from_norm, wind_from_norm}
-use Rattle.records.specs.declared.craft.Guidance.{Guidance}
-use Rattle.records.specs.declared.craft.Guidance.TheVariants.{Unconfigured, Configured}
 use Rattle.records.specs.declared.craft.Craft.{Craft}
 use Rattle.records.specs.declared.answer.Refusal.TheVariants as refusals
 use Rattle.records.specs.declared.answer.Answer.TheVariants.{Done}
@@ -38,9 +38,6 @@ use Rattle.records.specs.declared.kinds.Kind.{Kind}
 use Rattle.records.specs.declared.kinds.Kind.TheVariants as kinds
 use Rattle.records.specs.declared.read.Input.{Input}
 use Rattle.records.specs.declared.read.Input.TheVariants as inputs
-use Rattle.records.specs.declared.read.Read.{Read}
-use Rattle.records.specs.declared.read.Read.TheVariants as reading
-use Rattle.records.specs.declared.read.CommandRead.TheVariants as commanded
 use Rattle.records.specs.Craft.{unconfigured}
 use Rattle.records.specs.Answer.{accepted}
 use Rattle.records.specs.Layout.{byte_at, float_at}
@@ -61,9 +58,9 @@ use Rattle.records.proofs.Laws.Read.{by_checks}
 
 -- ---- crafts that differ in no more than what cannot be read
 
-abbrev pub norm_guidance : Guidance → Guidance
-norm_guidance Unconfigured = Unconfigured
-norm_guidance (Configured g) = Configured (norm_craft g)
+abbrev pub norm_guidance : Option CopterGuidance → Option CopterGuidance
+norm_guidance None = None
+norm_guidance (Some g) = Some (norm_craft g)
 
 abbrev pub normed : Craft → Craft
 normed craft = record { guidance = norm_guidance craft.guidance }
@@ -97,37 +94,36 @@ module _ (g h : CopterGuidance) (same : norm_craft g ≡ norm_craft h) where
       λ i. Accepted (record { config = (same i).config; memory = (m i).craft.memory }) (setpoint_answer (m i).setpoint (m i).flags)
   perform_same inputs.Wind = let reading = of_both wind_reading wind_from_norm in λ i. Accepted (same i) (wind_answer (reading i))
 
-told_same : (a b : Guidance) → norm_guidance a ≡ norm_guidance b → (said : Read) → norm_verdict (told a said) ≡ norm_verdict (told b said)
+told_same : (a b : Option CopterGuidance) → norm_guidance a ≡ norm_guidance b → (said : Result Input Refusal) → norm_verdict (told a said) ≡ norm_verdict (told b said)
 unfolding told
-told_same Unconfigured Unconfigured same said = refl
-told_same Unconfigured (Configured h) same said = cc
-told_same (Configured g) Unconfigured same said = cc
-told_same (Configured g) (Configured h) same (reading.Input input) = perform_same g h (cc) input
-told_same (Configured g) (Configured h) same (reading.Refused refusal) = refl
+told_same None None same said = refl
+told_same None (Some h) same said = cc
+told_same (Some g) None same said = cc
+told_same (Some g) (Some h) same (Ok input) = perform_same g h (cc) input
+told_same (Some g) (Some h) same (Err refusal) = refl
 
 -- where a test leads to the same, or to what is the same but for what `norm` sets
 unless_same : (b : Bool) (x j k : Judged) → norm_judged j ≡ norm_judged k → norm_judged (cond b x j) ≡ norm_judged (cond b x k)
 unless_same true x j k same = refl
 unless_same false x j k same = same
 
-module _ (a b : Guidance) (same : norm_guidance a ≡ norm_guidance b) where
-  serve_same : (kind : Kind) (body : List ℕ) → norm_verdict (serve kind a body) ≡ norm_verdict (serve kind b body)
+module _ (a b : Option CopterGuidance) (same : norm_guidance a ≡ norm_guidance b) where
+  serve_same : (kind : Option Kind) (body : List ℕ) → norm_verdict (serve kind a body) ≡ norm_verdict (serve kind b body)
   unfolding serve
-  serve_same kinds.Configure body = refl
-  serve_same (kinds.InFlight kind) body = told_same a b same (read kind body)
-  serve_same kinds.Unknown body = refl
+  serve_same (Some kinds.Configure) body = refl
+  serve_same (Some (kinds.InFlight kind)) body = told_same a b same (read kind body)
+  serve_same None body = refl
 
-  with_body_same : (kind : Kind) (rest : List ℕ) → norm_judged (with_body kind a rest) ≡ norm_judged (with_body kind b rest)
+  with_body_same : (kind : Option Kind) (rest : List ℕ) → norm_judged (with_body kind a rest) ≡ norm_judged (with_body kind b rest)
   with_body_same kind rest =
       let needed = body_length kind in
       unless_same (ltb (length rest) needed) (untaken refusals.Short) _ _
       (λ i. record { verdict = serve_same kind (take needed rest) i; taken = suc needed })
 
-  with_kind_same : (kind : Kind) (rest : List ℕ) → norm_judged (with_kind kind a rest) ≡ norm_judged (with_kind kind b rest)
+  with_kind_same : (kind : Option Kind) (rest : List ℕ) → norm_judged (with_kind kind a rest) ≡ norm_judged (with_kind kind b rest)
   unfolding with_kind
-  with_kind_same kinds.Configure rest = with_body_same kinds.Configure rest
-  with_kind_same (kinds.InFlight kind) rest = with_body_same (kinds.InFlight kind) rest
-  with_kind_same kinds.Unknown rest = refl
+  with_kind_same (Some kind) rest = with_body_same (Some kind) rest
+  with_kind_same None rest = refl
 
   judged_same : (bytes : List ℕ) → norm_judged (judged a bytes) ≡ norm_judged (judged b bytes)
   unfolding judged
@@ -167,24 +163,24 @@ alike_replies c d same (entry ∷ entries) =
 -- ---- an accepted record of a kind in flight
 
 -- the input, where a body says one
-abbrev Says : Input → Read → Type 0
-Says input (reading.Input said) = said ≡ input
-Says input (reading.Refused refusal) = Unit {0}
+abbrev Says : Input → Result Input Refusal → Type 0
+Says input (Ok said) = said ≡ input
+Says input (Err refusal) = Unit {0}
 
 call_says : (command : Command) (dt : Float) (state : VehicleState)
-    → Says (inputs.Call dt state command) (call_input (commanded.Command command) dt state)
+    → Says (inputs.Call dt state command) (call_input (Ok command) dt state)
 call_says command dt state = by_checks (Says (inputs.Call dt state command)) command dt state (λ in_time headed. refl) (λ refusal. tt)
 
 prime_says : (state : VehicleState) → Says (inputs.Prime state) (prime_input state)
 unfolding prime_input
 prime_says state = cond_both (heading_ok state.heading_rad) _ _ (Says (inputs.Prime state)) (λ headed. refl) (λ turned. tt)
 
-told_accepted : (guidance : Guidance) (said : Read) (input : Input) → Says input said → T (accepted (answer_of (told guidance said)))
-    → (g : CopterGuidance) × (guidance ≡ Configured g) × (said ≡ reading.Input input)
+told_accepted : (guidance : Option CopterGuidance) (said : Result Input Refusal) (input : Input) → Says input said → T (accepted (answer_of (told guidance said)))
+    → (g : CopterGuidance) × (guidance ≡ Some g) × (said ≡ Ok input)
 unfolding answer_of told
-told_accepted Unconfigured said input says none = absurd none
-told_accepted (Configured g) (reading.Input other) input says some = (g, refl, ap reading.Input says)
-told_accepted (Configured g) (reading.Refused refusal) input says none = absurd none
+told_accepted None said input says none = absurd none
+told_accepted (Some g) (Ok other) input says some = (g, refl, ap Ok says)
+told_accepted (Some g) (Err refusal) input says none = absurd none
 
 -- The craft is configured, and every configured craft performs the input.
 record Performs (craft : Craft) (entry : Entry) (input : Input) : Type 0 where
@@ -192,7 +188,7 @@ record Performs (craft : Craft) (entry : Entry) (input : Input) : Type 0 where
   pub holds : craft ≡ configured before
   pub leaves : (g : CopterGuidance) → (outcome (configured g) entry).craft ≡ configured (record { config = g.config; memory = (perform g input).memory })
 
-accepted_performs : (craft : Craft) (entry : Entry) → feed.Accepted craft entry → (kind : InFlight) → kind_of (kind_byte entry) ≡ kinds.InFlight kind
+accepted_performs : (craft : Craft) (entry : Entry) → feed.Accepted craft entry → (kind : InFlight) → kind_of (kind_byte entry) ≡ Some (kinds.InFlight kind)
     → (input : Input) → Says input (read kind (body_of entry)) → Performs craft entry input
 unfolding answered told craft_after
 accepted_performs craft entry accepts kind is input says =

@@ -1,4 +1,6 @@
 -- What a body says, where it is not refused: a heading is a float of 32 bits, a time step is accepted and a configuration is valid. Assumes nothing.
+use Rattle.copter.specs.declared.config.CopterGuidanceConfig.{CopterGuidanceConfig}
+use Rattle.std.specs.Prelude.{Result, Ok, Err}
 use Prim.Native.Nat.{ℕ}
 use mathlib.Core.Path.{◌≡◌, refl, sym, subst, ◌∙◌}
 use mathlib.Core.Bool.{Bool, true, false}
@@ -21,12 +23,6 @@ use Rattle.records.specs.declared.kinds.InFlight.{InFlight}
 use Rattle.records.specs.declared.kinds.InFlight.TheVariants as flights
 use Rattle.records.specs.declared.read.Input.{Input}
 use Rattle.records.specs.declared.read.Input.TheVariants as inputs
-use Rattle.records.specs.declared.read.Read.{Read}
-use Rattle.records.specs.declared.read.Read.TheVariants as reading
-use Rattle.records.specs.declared.read.Configuration.{Configuration}
-use Rattle.records.specs.declared.read.Configuration.TheVariants.{Of, Broken}
-use Rattle.records.specs.declared.read.CommandRead.{CommandRead}
-use Rattle.records.specs.declared.read.CommandRead.TheVariants as commanded
 use Rattle.records.specs.Layout.{float_at, floats_from}
 use Rattle.records.specs.Kinds.{state_start, command_start}
 use Rattle.records.specs.Read.{state, state_at, absolute_attitude_command, marks_ok, command, time_step_ok, heading_ok, configuration}
@@ -49,9 +45,9 @@ in_time_accepted dt ok =
 
 -- ---- inputs
 
-abbrev CommandReadFits : CommandRead → Type 0
-CommandReadFits (commanded.Command command) = CommandFits command
-CommandReadFits commanded.BadMark = Unit {0}
+abbrev CommandReadFits : Result Command Refusal → Type 0
+CommandReadFits (Ok command) = CommandFits command
+CommandReadFits (Err refusal) = Unit {0}
 
 command_fits : (call : Call) (part : List ℕ) → CommandReadFits (command call part)
 unfolding command absolute_attitude_command
@@ -67,29 +63,29 @@ InputFits (inputs.Prime state) = T (fits binary32 state.heading_rad)
 InputFits (inputs.Call dt state command) = Accepted dt × T (fits binary32 state.heading_rad) × CommandFits command
 InputFits inputs.Wind = Unit {0}
 
-abbrev pub ReadFits : Read → Type 0
-ReadFits (reading.Input input) = InputFits input
-ReadFits (reading.Refused refusal) = Unit {0}
+abbrev pub ReadFits : Result Input Refusal → Type 0
+ReadFits (Ok input) = InputFits input
+ReadFits (Err refusal) = Unit {0}
 
 -- A fact of every refusal, and of the input where both checks pass, is one of what a call with good marks says, whichever check comes first.
-module _ (P : Read → Type 0) (command : Command) (dt : Float) (state : VehicleState)
-    (accepts : time_step_ok dt ≡ true → heading_ok state.heading_rad ≡ true → P (reading.Input (inputs.Call dt state command)))
-    (refuses : (refusal : Refusal) → P (reading.Refused refusal)) where
-  by_both : (t h : Bool) → time_step_ok dt ≡ t → heading_ok state.heading_rad ≡ h → P (call_input (commanded.Command command) dt state)
+module _ (P : Result Input Refusal → Type 0) (command : Command) (dt : Float) (state : VehicleState)
+    (accepts : time_step_ok dt ≡ true → heading_ok state.heading_rad ≡ true → P (Ok (inputs.Call dt state command)))
+    (refuses : (refusal : Refusal) → P (Err refusal)) where
+  by_both : (t h : Bool) → time_step_ok dt ≡ t → heading_ok state.heading_rad ≡ h → P (call_input (Ok command) dt state)
   unfolding call_input
   by_both true true in_time headed = simp (in_time, headed) (accepts in_time headed)
   by_both true false in_time turned = simp (in_time, turned) (refuses _)
   by_both false true late headed = simp (late, headed) (refuses _)
   by_both false false late turned = simp (late, turned) (refuses _)
 
-  pub by_checks : P (call_input (commanded.Command command) dt state)
+  pub by_checks : P (call_input (Ok command) dt state)
   by_checks = by_both (time_step_ok dt) (heading_ok state.heading_rad) refl refl
 
-call_fits : (commanded : CommandRead) (dt : Float) (state : VehicleState) → CommandReadFits commanded → T (fits binary32 state.heading_rad)
+call_fits : (commanded : Result Command Refusal) (dt : Float) (state : VehicleState) → CommandReadFits commanded → T (fits binary32 state.heading_rad)
     → ReadFits (call_input commanded dt state)
 unfolding call_input
-call_fits commanded.BadMark dt state fit heading = tt
-call_fits (commanded.Command command) dt state fit heading =
+call_fits (Err refusal) dt state fit heading = tt
+call_fits (Ok command) dt state fit heading =
     by_checks ReadFits command dt state (λ in_time headed. (in_time_accepted dt in_time, heading, fit)) (λ refusal. tt)
 
 pub read_fits : (kind : InFlight) (body : List ℕ) → ReadFits (read kind body)
@@ -108,9 +104,9 @@ none_broken : (body : List ℕ) →
     leb (lowest values 1 field_count) field_count ≡ false → EachKeeps values
 none_broken body none_breaks = each_keeps body (none_fails_kept body (fields_searched body ∙ rw none_breaks))
 
-abbrev pub ConfigurationValid : Configuration → Type 0
-ConfigurationValid (Of config) = Valid config
-ConfigurationValid (Broken field) = Unit {0}
+abbrev pub ConfigurationValid : Result CopterGuidanceConfig Refusal → Type 0
+ConfigurationValid (Ok config) = Valid config
+ConfigurationValid (Err refusal) = Unit {0}
 
 pub configuration_valid : (body : List ℕ) → ConfigurationValid (configuration body)
 unfolding configuration

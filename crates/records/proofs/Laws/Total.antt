@@ -1,11 +1,11 @@
 -- Demand 1 holds: `total`. The checks of a record are followed to its answer, kind by kind, and what a refusal leaves to what the record comes to.
 -- Assumes nothing.
+use Rattle.std.specs.Prelude.{None, Option, Some, Result, Ok, Err}
 use Prim.Native.Nat.{ℕ, zero, suc, ◌+◌, ◌-◌, ◌*◌, ◌≤◌, ◌<◌}
 use mathlib.Core.Path.{◌≡◌, refl, sym, ap, subst, ◌∙◌}
 use mathlib.Core.Bool.{Bool, true, false, not, cond, ◌&&◌, ◌||◌, true≢false}
 use mathlib.Core.Logic.{◌↔◌}
 use mathlib.Core.List.{List, [], ◌∷◌, ◌++◌}
-use mathlib.Core.Option.{Option, none, some}
 use native.Mathlib.Omega.{arith}
 use native.Mathlib.Nat.{add_assoc}
 use borrow.Author.Tests.{le-leb, lt-leb, le-ltb, ne_eqb, not-true, not-false}
@@ -20,8 +20,6 @@ use Rattle.copter.specs.Config.{field_count, nth, rule, lowest, config_of, Valid
 use Rattle.copter.proofs.Laws.Config.{EachKeeps, kept_is_valid, here_or_later}
 use Rattle.copter.specs.declared.config.CopterGuidanceConfig.{CopterGuidanceConfig}
 use Rattle.copter.specs.declared.commands.Command.{Command}
-use Rattle.records.specs.declared.craft.Guidance.{Guidance}
-use Rattle.records.specs.declared.craft.Guidance.TheVariants.{Unconfigured, Configured}
 use Rattle.records.specs.declared.craft.Craft.{Craft}
 use Rattle.records.specs.declared.answer.Refusal.{Refusal}
 use Rattle.records.specs.declared.answer.Refusal.TheVariants as refusals
@@ -30,10 +28,6 @@ use Rattle.records.specs.declared.kinds.InFlight.{InFlight}
 use Rattle.records.specs.declared.kinds.InFlight.TheVariants as flights
 use Rattle.records.specs.declared.kinds.Kind.{Kind}
 use Rattle.records.specs.declared.kinds.Kind.TheVariants as kinds
-use Rattle.records.specs.declared.read.Read.{Read}
-use Rattle.records.specs.declared.read.Read.TheVariants as reading
-use Rattle.records.specs.declared.read.CommandRead.TheVariants as commanded
-use Rattle.records.specs.declared.read.Configuration.TheVariants.{Of, Broken}
 use Rattle.records.specs.declared.read.Input.{Input}
 use Rattle.records.specs.declared.read.Input.TheVariants as inputs
 use Rattle.records.specs.Answer.{number, field_of, refusal_of, is_none, accepted, refusal_bytes, answer_bytes}
@@ -48,6 +42,7 @@ use Rattle.records.specs.Total.{Accepting, Configures, fields_in, config_in, Kee
 use Rattle.records.proofs.Laws.Layout.{floats_at}
 use Rattle.std.proofs.lemmas.Bool.{cond_both}
 use Rattle.records.proofs.Laws.Counts.{answer_short, neither, unknown, unknown_byte, served, judged_cases, complete_served, accepted_complete}
+use Rattle.copter.specs.declared.memory.CopterGuidance.{CopterGuidance}
 use Rattle.records.proofs.Laws.Counts.{perform_accepted, TakesRecord, serve_takes}
 
 -- ---- places in a body
@@ -93,14 +88,14 @@ record LowestFrom (body : List ℕ) (n d m : ℕ) : Type 0 where
 
 -- what the checks of those fields find: nothing where all keep their rules, else the lowest that does not
 abbrev Found : List ℕ → ℕ → ℕ → Option Reason → Type 0
-Found body n d none = (i : ℕ) → n ≤ i → i < n + d → Keeps body i
-Found body n d (some reason) = (m : ℕ) × (reason ≡ broken m) × LowestFrom body n d m
+Found body n d None = (i : ℕ) → n ≤ i → i < n + d → Keeps body i
+Found body n d (Some reason) = (m : ℕ) × (reason ≡ broken m) × LowestFrom body n d m
 
 module _ (body : List ℕ) (n : ℕ) where
   found_later : (d : ℕ) → Keeps body n → (o : Option Reason) → Found body (suc n) d o → Found body n (suc d) o
-  found_later d keeps none all =
+  found_later d keeps None all =
       λ i low high. here_or_later (Keeps body) n i low keeps (λ later. all i later (omega arith))
-  found_later d keeps (some reason) (m, is_field, lowest_later) = (
+  found_later d keeps (Some reason) (m, is_field, lowest_later) = (
     m,
     is_field,
     record {
@@ -111,7 +106,7 @@ module _ (body : List ℕ) (n : ℕ) where
     },
   )
 
-  found_here : (d : ℕ) → rule n (float_at body (4 * (n - 1))) ≡ false → Found body n (suc d) (some (broken n))
+  found_here : (d : ℕ) → rule n (float_at body (4 * (n - 1))) ≡ false → Found body n (suc d) (Some (broken n))
   found_here d breaks =
       (n, refl, record { low = omega arith; high = omega arith; breaks = breaks; lower_keep = λ i low below. absurd (omega arith) })
 
@@ -124,31 +119,31 @@ found body n (suc d) =
     cond_both (not keeps) _ _ (Found body n (suc d)) (λ fails. found_here body n d (not-true keeps fails))
     (λ holds. found_later body n d (not-false keeps holds) others (found body (suc n) d))
 
-kept_none_fails : (body : List ℕ) → ((n : ℕ) → 1 ≤ n → n ≤ field_count → Keeps body n) → first_failing (fields_kept body 1 field_count) ≡ none
+kept_none_fails : (body : List ℕ) → ((n : ℕ) → 1 ≤ n → n ≤ field_count → Keeps body n) → first_failing (fields_kept body 1 field_count) ≡ None
 kept_none_fails body keep = go (first_failing (fields_kept body 1 field_count)) (found body 1 field_count)
   where
-    go : (o : Option Reason) → Found body 1 field_count o → o ≡ none
-    go none all = refl
-    go (some reason) (m, is_field, is_lowest) = absurd (true≢false (sym (keep m is_lowest.low (omega arith)) ∙ is_lowest.breaks))
+    go : (o : Option Reason) → Found body 1 field_count o → o ≡ None
+    go None all = refl
+    go (Some reason) (m, is_field, is_lowest) = absurd (true≢false (sym (keep m is_lowest.low (omega arith)) ∙ is_lowest.breaks))
 
-pub none_fails_kept : (body : List ℕ) → first_failing (fields_kept body 1 field_count) ≡ none → (n : ℕ) → 1 ≤ n → n ≤ field_count → Keeps body n
+pub none_fails_kept : (body : List ℕ) → first_failing (fields_kept body 1 field_count) ≡ None → (n : ℕ) → 1 ≤ n → n ≤ field_count → Keeps body n
 none_fails_kept body none_fails n low high = subst (Found body 1 field_count) none_fails (found body 1 field_count) n low (omega arith)
 
 fails_lowest : (body : List ℕ) → no_reason (first_failing (fields_kept body 1 field_count)) ≡ false
-    → (n : ℕ) × (first_failing (fields_kept body 1 field_count) ≡ some (broken n)) × Lowest body n
+    → (n : ℕ) × (first_failing (fields_kept body 1 field_count) ≡ Some (broken n)) × Lowest body n
 fails_lowest body = go (first_failing (fields_kept body 1 field_count)) (found body 1 field_count)
   where
-    go : (o : Option Reason) → Found body 1 field_count o → no_reason o ≡ false → (n : ℕ) × (o ≡ some (broken n)) × Lowest body n
-    go none all some_fails = absurd (true≢false some_fails)
-    go (some reason) (n, is_field, is_lowest) some_fails = (
+    go : (o : Option Reason) → Found body 1 field_count o → no_reason o ≡ false → (n : ℕ) × (o ≡ Some (broken n)) × Lowest body n
+    go None all some_fails = absurd (true≢false some_fails)
+    go (Some reason) (n, is_field, is_lowest) some_fails = (
       n,
-      ap some is_field,
+      ap Some is_field,
       record { low = is_lowest.low; high = omega arith; breaks = is_lowest.breaks; lower_keep = is_lowest.lower_keep },
     )
 
 -- the refusal of the field at which a search stops, none past the last
 abbrev field_refused : ℕ → ℕ → Option Reason
-field_refused last field = cond (leb field last) (some (broken field)) none
+field_refused last field = cond (leb field last) (Some (broken field)) None
 
 -- The search through the values is that through the checks.
 module _ (values : List Float) (body : List ℕ) (last : ℕ) where
@@ -162,7 +157,7 @@ module _ (values : List Float) (body : List ℕ) (last : ℕ) where
       (searched (suc n) d (omega arith) (λ i low high. same i (omega arith) high)))
     where
       by_rule : (keeps : Bool) → first_failing (fields_kept body (suc n) d) ≡ field_refused last (lowest values (suc n) d)
-          → cond (not keeps) (some (broken n)) (first_failing (fields_kept body (suc n) d))
+          → cond (not keeps) (Some (broken n)) (first_failing (fields_kept body (suc n) d))
           ≡ field_refused last (cond keeps (lowest values (suc n) d) n)
       by_rule true later = later
       by_rule false later = rw (le-leb n last (omega arith))
@@ -197,7 +192,7 @@ asked true refusal j checks others = refl
 asked false refusal j checks others = others
 
 field_searched : (fails : Bool) (field : ℕ) (config : CopterGuidanceConfig)
-    → verdict_reason (configure (cond fails (Broken field) (Of config))) ≡ cond fails (some (broken field)) none
+    → verdict_reason (configure (cond fails (Err (refusals.Field field)) (Ok config))) ≡ cond fails (Some (broken field)) None
 unfolding answer_of configure
 field_searched true field config = refl
 field_searched false field config = refl
@@ -210,27 +205,27 @@ configure_refused body =
     field_searched (leb field field_count) field (config_of values) ∙ sym (fields_searched body)
 
 -- the reason that a body gives, or none
-abbrev reason_said : Read → Option Reason
-reason_said (reading.Input input) = none
-reason_said (reading.Refused refusal) = some (reason refusal)
+abbrev reason_said : Result Input Refusal → Option Reason
+reason_said (Ok input) = None
+reason_said (Err refusal) = Some (reason refusal)
 
-told_refused : (guidance : Guidance) (said : Read) (checks : List Check) → reason_said said ≡ first_failing checks
+told_refused : (guidance : Option CopterGuidance) (said : Result Input Refusal) (checks : List Check) → reason_said said ≡ first_failing checks
     → verdict_reason (told guidance said) ≡ first_failing (no_craft guidance ∷ checks)
 unfolding answer_of told first_failing
-told_refused Unconfigured said checks others = refl
-told_refused (Configured g) (reading.Input input) checks others = ap reason_in (perform_accepted g input) ∙ others
-told_refused (Configured g) (reading.Refused refusal) checks others = others
+told_refused None said checks others = refl
+told_refused (Some g) (Ok input) checks others = ap reason_in (perform_accepted g input) ∙ others
+told_refused (Some g) (Err refusal) checks others = others
 
 -- the check of a heading
-headed : (holds : Bool) (input : Input) → reason_said (cond holds (reading.Input input) (reading.Refused refusals.Heading))
+headed : (holds : Bool) (input : Input) → reason_said (cond holds (Ok input) (Err refusals.Heading))
     ≡ first_failing (check (not holds) (because 3) ∷ [])
 unfolding first_failing
 headed true input = refl
 headed false input = refl
 
 -- the time step before it
-timed : (holds : Bool) (said : Read) (checks : List Check) → reason_said said ≡ first_failing checks
-    → reason_said (cond holds said (reading.Refused refusals.TimeStep)) ≡ first_failing (check (not holds) (because 2) ∷ checks)
+timed : (holds : Bool) (said : Result Input Refusal) (checks : List Check) → reason_said said ≡ first_failing checks
+    → reason_said (cond holds said (Err refusals.TimeStep)) ≡ first_failing (check (not holds) (because 2) ∷ checks)
 unfolding first_failing
 timed true said checks others = others
 timed false said checks others = refl
@@ -240,7 +235,7 @@ module _ (body : List ℕ) where
   unfolding prime_input
   prime_said = rw (← not_large, ← heading_of_state body) (headed (heading_ok (state body).heading_rad) (inputs.Prime (state body)))
 
-  call_said : (command : Command) → reason_said (call_input (commanded.Command command) (float_at body 0) (state_at body state_start))
+  call_said : (command : Command) → reason_said (call_input (Ok command) (float_at body 0) (state_at body state_start))
       ≡ first_failing (step_and_heading body)
   unfolding call_input
   call_said command =
@@ -250,7 +245,7 @@ module _ (body : List ℕ) where
 
   -- the marks before both
   marked : (holds : Bool) (command : Command)
-      → reason_said (call_input (cond holds (commanded.Command command) commanded.BadMark) (float_at body 0) (state_at body state_start))
+      → reason_said (call_input (cond holds (Ok command) (Err refusals.Mark)) (float_at body 0) (state_at body state_start))
       ≡ first_failing (check (not holds) (because 8) ∷ step_and_heading body)
   unfolding call_input first_failing
   marked true command = call_said command
@@ -261,16 +256,16 @@ module _ (body : List ℕ) where
   unfolding command
   waypoint_said = rw (← marks_of_call body) (marked (marks_ok (drop command_start body)) _)
 
-rate_said : some (because 4) ≡ first_failing (check true (because 4) ∷ [])
+rate_said : Some (because 4) ≡ first_failing (check true (because 4) ∷ [])
 unfolding first_failing
 rate_said = refl
 
-nothing_said : none ≡ first_failing []
+nothing_said : None ≡ first_failing []
 unfolding first_failing
 nothing_said = refl
 
-in_flight_refused : (kind : InFlight) (guidance : Guidance) (body : List ℕ)
-    → verdict_reason (told guidance (read kind body)) ≡ first_failing (own_checks (kinds.InFlight kind) guidance body)
+in_flight_refused : (kind : InFlight) (guidance : Option CopterGuidance) (body : List ℕ)
+    → verdict_reason (told guidance (read kind body)) ≡ first_failing (own_checks (Some (kinds.InFlight kind)) guidance body)
 unfolding read command
 in_flight_refused flights.Prime guidance body = told_refused guidance _ _ (prime_said body)
 in_flight_refused (flights.Call calls.Attitude) guidance body = told_refused guidance _ _ (call_said body _)
@@ -282,7 +277,7 @@ in_flight_refused flights.Rate guidance body = told_refused guidance _ _ rate_sa
 in_flight_refused flights.Wind guidance body = told_refused guidance _ _ nothing_said
 
 -- a record of a known kind, by its body
-with_body_refused : (kind : Kind) (guidance : Guidance) (bytes : List ℕ) →
+with_body_refused : (kind : Option Kind) (guidance : Option CopterGuidance) (bytes : List ℕ) →
     let needed = body_length kind in
     let body = take needed (drop 1 bytes) in
     verdict_reason (serve kind guidance body) ≡ first_failing (own_checks kind guidance body)
@@ -291,7 +286,7 @@ with_body_refused : (kind : Kind) (guidance : Guidance) (bytes : List ℕ) →
 with_body_refused kind guidance bytes others =
     rw (← length-drop 1 bytes) (asked (ltb (length (drop 1 bytes)) (body_length kind)) refusals.Short (served kind guidance (drop 1 bytes)) _ others)
 
-with_kind_refused : (kind : Kind) (guidance : Guidance) (bytes : List ℕ) →
+with_kind_refused : (kind : Option Kind) (guidance : Option CopterGuidance) (bytes : List ℕ) →
     let needed = body_length kind in
     verdict_reason (with_kind kind guidance (drop 1 bytes)).verdict
     ≡ first_failing
@@ -299,9 +294,9 @@ with_kind_refused : (kind : Kind) (guidance : Guidance) (bytes : List ℕ) →
     ∷ check (ltb (length bytes - 1) needed) (because 6)
     ∷ own_checks kind guidance (take needed (drop 1 bytes)))
 unfolding answer_of with_kind serve first_failing
-with_kind_refused kinds.Configure guidance bytes = with_body_refused kinds.Configure guidance bytes (configure_refused _)
-with_kind_refused (kinds.InFlight kind) guidance bytes = with_body_refused (kinds.InFlight kind) guidance bytes (in_flight_refused kind guidance _)
-with_kind_refused kinds.Unknown guidance bytes = refl
+with_kind_refused (Some kinds.Configure) guidance bytes = with_body_refused (Some kinds.Configure) guidance bytes (configure_refused _)
+with_kind_refused (Some (kinds.InFlight kind)) guidance bytes = with_body_refused (Some (kinds.InFlight kind)) guidance bytes (in_flight_refused kind guidance _)
+with_kind_refused None guidance bytes = refl
 
 refused_by : (craft : Craft) (bytes buffer : List ℕ) → reason_of (step craft bytes buffer).answer ≡ why craft bytes buffer
 unfolding step judged answered checks
@@ -311,8 +306,8 @@ refused_by craft bytes buffer =
     (asked (eqb (length bytes) 0) refusals.Short _ _ (with_kind_refused (kind_of (byte_at bytes 0)) craft.guidance bytes)))
 
 none_given : (o : Option Refusal) → is_none o ≡ no_reason (reason_in o)
-none_given none = refl
-none_given (some refusal) = refl
+none_given None = refl
+none_given (Some refusal) = refl
 
 accepted_exactly : (craft : Craft) (bytes buffer : List ℕ) → accepted (step craft bytes buffer).answer ≡ no_reason (why craft bytes buffer)
 accepted_exactly craft bytes buffer = none_given (refusal_of (step craft bytes buffer).answer) ∙ ap no_reason (refused_by craft bytes buffer)
@@ -348,7 +343,7 @@ module _ (craft : Craft) (bytes buffer : List ℕ) (configures : Configures byte
       rw (
         configures.kind_one,
         le-ltb (length buffer) 25 configures.room,
-        ne_eqb (length bytes) 0 (λ none. omega arith),
+        ne_eqb (length bytes) 0 (λ None. omega arith),
         le-ltb (length bytes - 1) 200 (omega arith),
       )
 
@@ -362,9 +357,9 @@ module _ (craft : Craft) (bytes buffer : List ℕ) (configures : Configures byte
   accepted→kept accepts =
       none_fails_kept (fields_in bytes) (none_of (first_failing (fields_kept (fields_in bytes) 1 field_count)) (sym configure_accepted ∙ accepts))
     where
-      none_of : (o : Option Reason) → no_reason o ≡ true → o ≡ none
-      none_of none given = refl
-      none_of (some reason) given = absurd (true≢false (sym given))
+      none_of : (o : Option Reason) → no_reason o ≡ true → o ≡ None
+      none_of None given = refl
+      none_of (Some reason) given = absurd (true≢false (sym given))
 
   accepted_valid : (accepted (step craft bytes buffer).answer ≡ true) ↔ Valid (config_in bytes)
   accepted_valid =
@@ -373,7 +368,7 @@ module _ (craft : Craft) (bytes buffer : List ℕ) (configures : Configures byte
       (λ accepts. valid.0 (each_keeps (fields_in bytes) (accepted→kept accepts)), λ v. kept→accepted (keeps_each (fields_in bytes) (valid.1 v)))
 
   else_lowest : accepted (step craft bytes buffer).answer ≡ false
-      → (n : ℕ) × (reason_of (step craft bytes buffer).answer ≡ some (broken n)) × Lowest (fields_in bytes) n
+      → (n : ℕ) × (reason_of (step craft bytes buffer).answer ≡ Some (broken n)) × Lowest (fields_in bytes) n
   else_lowest refuses =
       let (n, first, is_lowest) = fails_lowest (fields_in bytes) (sym configure_accepted ∙ refuses) in
       (n, refused_by craft bytes buffer ∙ configure_why ∙ first, is_lowest)
@@ -382,7 +377,7 @@ module _ (craft : Craft) (bytes buffer : List ℕ) (configures : Configures byte
 
 -- an accepted answer; or a refusal, 9 exactly where there is no room, that takes no byte or the record
 abbrev Settles : Bool → ℕ → ℕ → Verdict → Type 0
-Settles no_room needed taken (Accepted g answer) = refusal_of answer ≡ none
+Settles no_room needed taken (Accepted g answer) = refusal_of answer ≡ None
 Settles no_room needed taken (Refused refusal) = (eqb (number refusal) 9 ≡ no_room) × (taken ≡ cond (takes_none (number refusal)) 0 (suc needed))
 
 whole_settles : (needed : ℕ) (verdict : Verdict) → TakesRecord verdict → Settles false needed (suc needed) verdict
@@ -426,13 +421,13 @@ module _ (craft : Craft) (bytes buffer : List ℕ) where
       }
 
   verdict_left : (why : Reason) (taken : ℕ) (verdict : Verdict) → SettlesHere (record { verdict = verdict; taken = taken })
-      → verdict_reason verdict ≡ some why → Refusing craft bytes buffer why (answered craft (record { verdict = verdict; taken = taken }) buffer)
+      → verdict_reason verdict ≡ Some why → Refusing craft bytes buffer why (answered craft (record { verdict = verdict; taken = taken }) buffer)
   unfolding answer_of
   verdict_left why taken (Accepted g answer) settles refuses = absurd (true≢false (ap no_reason (sym (ap reason_in settles) ∙ refuses)))
   verdict_left why taken (Refused refusal) settles refuses =
       let same : reason refusal ≡ why = cc in rw (← same) (refusal_left refusal taken settles)
 
-  refused_stays : (reason : Reason) → why craft bytes buffer ≡ some reason → Refusing craft bytes buffer reason (step craft bytes buffer)
+  refused_stays : (reason : Reason) → why craft bytes buffer ≡ Some reason → Refusing craft bytes buffer reason (step craft bytes buffer)
   unfolding step answered
   refused_stays reason fails =
       let j = cond (ltb (length buffer) answer_room) (untaken refusals.NoRoom) (judged craft.guidance bytes) in

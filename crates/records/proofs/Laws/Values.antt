@@ -1,5 +1,6 @@
 -- A state, each command, a configuration and whole bodies, laid in document 01's order, read back as they were, whatever stands where a mark is 0.
 -- Assumes nothing.
+use Rattle.std.specs.Prelude.{None, Option, Some, Ok}
 use Prim.Native.Nat.{ℕ, suc}
 use mathlib.Core.Path.{◌≡◌, refl, ap, ◌∙◌}
 use mathlib.Core.Bool.{true}
@@ -9,13 +10,9 @@ use lib.ListN.{drop}
 use lib.Ieee.{Float}
 use Rattle.math.specs.declared.vectors.Vec2.{Vec2}
 use Rattle.wind.specs.declared.state.VehicleState.{VehicleState}
-use Rattle.heading.specs.declared.Angle.{Angle}
-use Rattle.heading.specs.declared.Angle.TheVariants as angles
 use Rattle.copter.specs.Config.{field_count, lowest, fields_of}
 use Rattle.copter.specs.declared.config.CopterGuidanceConfig.{CopterGuidanceConfig}
 use Rattle.copter.specs.declared.commands.AttitudeCommand.{AttitudeCommand}
-use Rattle.copter.specs.declared.commands.TargetVelocity.{TargetVelocity}
-use Rattle.copter.specs.declared.commands.TargetVelocity.TheVariants as velocities
 use Rattle.copter.specs.declared.commands.WaypointCommand.{WaypointCommand}
 use Rattle.copter.specs.declared.commands.AbsoluteAttitudeCommand.{AbsoluteAttitudeCommand}
 use Rattle.copter.specs.declared.commands.LandCommand.{LandCommand}
@@ -25,9 +22,6 @@ use Rattle.copter.specs.declared.commands.Command.TheVariants as commands
 use Rattle.copter.proofs.Laws.Config.{config_back}
 use Rattle.records.specs.declared.kinds.InFlight.TheVariants as flights
 use Rattle.records.specs.declared.read.Input.TheVariants as inputs
-use Rattle.records.specs.declared.read.Read.TheVariants as reading
-use Rattle.records.specs.declared.read.CommandRead.TheVariants as commanded
-use Rattle.records.specs.declared.read.Configuration.TheVariants as configurations
 use Rattle.records.specs.Layout.{byte_at, float_at, Part, number, parts_of, laid, Fit}
 use Rattle.records.specs.Kinds.{step_layout, state_layout, command_layout, in_flight_layout, state_start, command_start}
 use Rattle.records.specs.Values.{state_values, attitude_values, waypoint_values, absolute_attitude_values, land_values, absolute_rate_values}
@@ -64,21 +58,21 @@ unfolding attitude_command
 attitude_back c fit more = read_back (attitude_values c) fit more attitude_of
 
 -- whatever stands where a mark is 0
-velocity_back : (unread : Vec2) (v : TargetVelocity) → target_velocity (velocity_mark v) (velocity_or unread v).x (velocity_or unread v).y ≡ v
-velocity_back unread velocities.Nothing = refl
-velocity_back unread (velocities.Mps v) = refl
+velocity_back : (unread : Vec2) (v : Option Vec2) → target_velocity (velocity_mark v) (velocity_or unread v).x (velocity_or unread v).y ≡ v
+velocity_back unread None = refl
+velocity_back unread (Some v) = refl
 
-heading_back : (unread : Float) (h : Angle) → commanded_heading (heading_mark h) (heading_or unread h) ≡ h
-heading_back unread angles.Nothing = refl
-heading_back unread (angles.Rad heading) = refl
+heading_back : (unread : Float) (h : Option Float) → commanded_heading (heading_mark h) (heading_or unread h) ≡ h
+heading_back unread None = refl
+heading_back unread (Some heading) = refl
 
-velocity_marked : (v : TargetVelocity) → leb (velocity_mark v) 1 ≡ true
-velocity_marked velocities.Nothing = refl
-velocity_marked (velocities.Mps v) = refl
+velocity_marked : (v : Option Vec2) → leb (velocity_mark v) 1 ≡ true
+velocity_marked None = refl
+velocity_marked (Some v) = refl
 
-heading_marked : (h : Angle) → leb (heading_mark h) 1 ≡ true
-heading_marked angles.Nothing = refl
-heading_marked (angles.Rad heading) = refl
+heading_marked : (h : Option Float) → leb (heading_mark h) 1 ≡ true
+heading_marked None = refl
+heading_marked (Some heading) = refl
 
 pub marks_back : (u : Unread) (c : WaypointCommand) → Fit (waypoint_values u c) → (more : List ℕ)
     → marks_ok (laid (waypoint_values u c) ++ more) ≡ true
@@ -94,11 +88,11 @@ waypoint_back u c fit more =
     ∙ rw (velocity_back u.velocity c.velocity_mps, heading_back u.heading c.heading_rad)
 
 -- Where a mark is 0 there is no velocity, or no heading, whatever bytes follow it.
-pub velocity_unread : (part : List ℕ) → byte_at part 8 ≡ 0 → (waypoint_command part).velocity_mps ≡ velocities.Nothing
+pub velocity_unread : (part : List ℕ) → byte_at part 8 ≡ 0 → (waypoint_command part).velocity_mps ≡ None
 unfolding waypoint_command
 velocity_unread part absent = rw absent
 
-pub heading_unread : (part : List ℕ) → byte_at part 25 ≡ 0 → (waypoint_command part).heading_rad ≡ angles.Nothing
+pub heading_unread : (part : List ℕ) → byte_at part 25 ≡ 0 → (waypoint_command part).heading_rad ≡ None
 unfolding waypoint_command
 heading_unread part absent = rw absent
 
@@ -117,7 +111,7 @@ unfolding absolute_rate_command
 absolute_rate_back c fit more = read_back (absolute_rate_values c) fit more absolute_rate_of
 
 pub command_back : (u : Unread) (c : Command) → Fit (command_values u c) → (more : List ℕ)
-    → command (call_of c) (laid (command_values u c) ++ more) ≡ commanded.Command c
+    → command (call_of c) (laid (command_values u c) ++ more) ≡ Ok c
 unfolding command
 command_back u (commands.Attitude c) fit more = rw (attitude_back c fit more)
 command_back u (commands.Waypoint c) fit more = rw (marks_back u c fit more, waypoint_back u c fit more)
@@ -129,7 +123,7 @@ command_back u (commands.AbsoluteRate c) fit more = rw (absolute_rate_back c fit
 
 -- A state whose heading is accepted.
 pub prime_back : (s : VehicleState) → Fit (state_values s) → heading_ok s.heading_rad ≡ true → (more : List ℕ)
-    → read flights.Prime (laid (state_values s) ++ more) ≡ reading.Input (inputs.Prime s)
+    → read flights.Prime (laid (state_values s) ++ more) ≡ Ok (inputs.Prime s)
 unfolding read
 prime_back s fit headed more = rw (state_back s fit more, headed)
 
@@ -150,14 +144,14 @@ module _ (u : Unread) (dt : Float) (s : VehicleState) (c : Command) (fit : Fit (
       rw (laid_behind (number dt ∷ []) (state_values s ++ command_values u c) more, laid_parts (state_values s) (command_values u c) more)
       (state_back s both_fit.0 _)
 
-  command_in_call : command (call_of c) (drop command_start body) ≡ commanded.Command c
+  command_in_call : command (call_of c) (drop command_start body) ≡ Ok c
   command_in_call =
       rw (laid_behind ((number dt ∷ []) ++ state_values s) (command_values u c) more) (command_back u c both_fit.1 more)
 
 -- A time step, a state and a command, where the time step and the state's heading are accepted.
 pub call_back : (u : Unread) (dt : Float) (s : VehicleState) (c : Command) → Fit (call_values u dt s c)
     → time_step_ok dt ≡ true → heading_ok s.heading_rad ≡ true → (more : List ℕ)
-    → read (flights.Call (call_of c)) (laid (call_values u dt s c) ++ more) ≡ reading.Input (inputs.Call dt s c)
+    → read (flights.Call (call_of c)) (laid (call_values u dt s c) ++ more) ≡ Ok (inputs.Call dt s c)
 unfolding read
 call_back u dt s c fit in_time headed more =
     rw (step_in_call u dt s c fit more, state_in_call u dt s c fit more, command_in_call u dt s c fit more, in_time, headed)
@@ -165,6 +159,6 @@ call_back u dt s c fit in_time headed more =
 -- A configuration whose fields keep their rules.
 pub configuration_back : (config : CopterGuidanceConfig) → Fit (map number (fields_of config))
     → lowest (fields_of config) 1 field_count ≡ suc field_count → (more : List ℕ)
-    → configuration (laid (map number (fields_of config)) ++ more) ≡ configurations.Of config
+    → configuration (laid (map number (fields_of config)) ++ more) ≡ Ok config
 unfolding configuration fields_of
 configuration_back config fit kept more = rw (floats_back (fields_of config) fit more, kept, config_back config)

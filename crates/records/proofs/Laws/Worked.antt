@@ -1,5 +1,8 @@
 -- Document 01's worked flights hold of the definitions: `worked_flights`, one theorem for the one table of specs/Worked.antt. W1 to W8 and W10 are laws of the
 -- crates below. Assumes nothing.
+use Rattle.records.specs.declared.answer.Refusal.{Refusal}
+use Rattle.records.specs.declared.read.Input.{Input}
+use Rattle.std.specs.Prelude.{Some, Result}
 use Prim.Native.Nat.{ℕ, suc, ◌≤◌}
 use mathlib.Core.Path.{◌≡◌, refl, ap, ◌∙◌}
 use mathlib.Core.Bool.{true, false}
@@ -17,8 +20,6 @@ use Rattle.copter.proofs.Laws.Worked as copter
 use Rattle.copter.specs.Config.{defaults}
 use Rattle.copter.specs.Guide.{absolute_attitude_call, guide_call}
 use Rattle.copter.specs.declared.memory.CopterGuidance.{CopterGuidance}
-use Rattle.records.specs.declared.craft.Guidance.TheVariants.{Configured}
-use Rattle.records.specs.declared.read.Read.{Read}
 use Rattle.records.specs.declared.kinds.Call.TheVariants as calls
 use Rattle.records.specs.declared.kinds.InFlight.TheVariants as flights
 use Rattle.records.specs.Craft.{unconfigured}
@@ -38,11 +39,11 @@ use Rattle.records.proofs.Laws.Examples.{examples}
 -- ---- W9
 
 module _ (t : Float) (g : CopterGuidance) (entry : Entry) (with_t : CallWith t entry) where
-  abbrev said : Read
+  abbrev said : Result Input Refusal
   said = read (flights.Call calls.AbsoluteAttitude) (body_of entry)
 
   -- A whole record of kind 6 is told to the craft.
-  told_as_call : outcome (configured g) entry ≡ answered (configured g) (record { verdict = told (Configured g) said; taken = 81 }) entry.buffer
+  told_as_call : outcome (configured g) entry ≡ answered (configured g) (record { verdict = told (Some g) said; taken = 81 }) entry.buffer
   unfolding kind_of
   told_as_call =
       let six = total.numbered.absolute_attitude in
@@ -52,7 +53,7 @@ module _ (t : Float) (g : CopterGuidance) (entry : Entry) (with_t : CallWith t e
       let complete : Complete entry.bytes entry.buffer =
       record { is_known = ap unknown kind; whole = omega (arith, with_t.whole); room = with_t.room } in
       complete_told (configured g) entry.bytes entry.buffer complete (flights.Call calls.AbsoluteAttitude) kind
-      ∙ ap (λ (n : ℕ). answered (configured g) (record { verdict = told (Configured g) said; taken = suc n }) entry.buffer) eighty
+      ∙ ap (λ (n : ℕ). answered (configured g) (record { verdict = told (Some g) said; taken = suc n }) entry.buffer) eighty
 
 call_accepted : (t : Float) → time_step_ok t ≡ true → CallAccepted t
 unfolding answered answer_of told read command perform guided guide_call absolute_attitude_call setpoint_answer

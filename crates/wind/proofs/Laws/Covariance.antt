@@ -14,12 +14,8 @@ use Rattle.wind.specs.declared.drag.WindConfig.{WindConfig}
 use Rattle.wind.specs.declared.drag.AxisDrag.{AxisDrag}
 use Rattle.wind.specs.declared.estimate.WindEstimate.{WindEstimate}
 use Rattle.wind.specs.declared.sample.Sample.{Sample}
-use Rattle.wind.specs.declared.sample.Sampled.{Sampled}
-use Rattle.wind.specs.declared.sample.Sampled.TheVariants.{Nothing, Taken}
 use Rattle.wind.specs.declared.window.Window.{Window}
 use Rattle.wind.specs.declared.window.Measured.{Measured}
-use Rattle.wind.specs.declared.window.Filter.{Filter}
-use Rattle.wind.specs.declared.window.Filter.TheVariants as filters
 use Rattle.wind.specs.declared.window.WindEstimator.{WindEstimator}
 use Rattle.wind.specs.Drag.{is_on}
 use Rattle.wind.specs.Estimate.{diagonal, initial, predict, covariance_along, corrected, correct}
@@ -67,19 +63,19 @@ unfolding axis_corrected
 axis_corrected_symmetric estimate config drag axis means s = corrected_by_symmetric _ estimate config drag axis means s
 
 -- no estimate, or one with a symmetric covariance
-abbrev pub SymmetricIfAny : Filter → Type 0
-SymmetricIfAny filters.Nothing = Unit {0}
-SymmetricIfAny (filters.Estimate estimate) = Symmetric estimate
+abbrev pub SymmetricIfAny : Option WindEstimate → Type 0
+SymmetricIfAny None = Unit {0}
+SymmetricIfAny (Some estimate) = Symmetric estimate
 
 abbrev pub Even : WindEstimator → Type 0
 Even self = SymmetricIfAny self.filter
 
-filter_or_symmetric : (filter : Filter) (config : WindConfig) → SymmetricIfAny filter → Symmetric (filter_or filter config)
+filter_or_symmetric : (filter : Option WindEstimate) (config : WindConfig) → SymmetricIfAny filter → Symmetric (filter_or filter config)
 unfolding filter_or
-filter_or_symmetric filters.Nothing config s = initial_symmetric config
-filter_or_symmetric (filters.Estimate estimate) config s = s
+filter_or_symmetric None config s = initial_symmetric config
+filter_or_symmetric (Some estimate) config s = s
 
-closed_symmetric : (filter : Filter) (config : WindConfig) (window : Window) → SymmetricIfAny filter → Symmetric (closed filter config window)
+closed_symmetric : (filter : Option WindEstimate) (config : WindConfig) (window : Window) → SymmetricIfAny filter → Symmetric (closed filter config window)
 unfolding closed
 closed_symmetric filter config window s =
     axis_corrected_symmetric _ config _ _ _
@@ -96,10 +92,10 @@ gathered_symmetric self dt config sample s =
     cond_holds Even (lt window.elapsed_s update_period) {x = record { filter = self.filter; window = window }} (λ _. s)
     (λ _. closed_symmetric self.filter config window s)
 
-taken_symmetric : (sampled : Sampled) (self : WindEstimator) (dt : Float) (config : WindConfig) → Even self → Even (taken sampled self dt config)
+taken_symmetric : (sampled : Option Sample) (self : WindEstimator) (dt : Float) (config : WindConfig) → Even self → Even (taken sampled self dt config)
 unfolding taken
-taken_symmetric Nothing self dt config s = s
-taken_symmetric (Taken sample) self dt config s = gathered_symmetric self dt config sample s
+taken_symmetric None self dt config s = s
+taken_symmetric (Some sample) self dt config s = gathered_symmetric self dt config sample s
 
 pub update_symmetric : (self : WindEstimator) (dt : Float) (config : WindConfig) (state : VehicleState) → Even self → Even (update self dt config state)
 unfolding update

@@ -1,6 +1,6 @@
 -- The drag's slope is the same for an air velocity and its opposite, and the slope that the code hands on with an air velocity is the drag's slope there.
 -- Assumes nothing.
-use Rattle.std.proofs.Common.{◌≡◌, Bool, true, false, cond, refl, ◌∙◌}
+use Rattle.std.proofs.Common.{◌≡◌, Bool, true, false, cond, refl, ap, sym, ◌∙◌}
 use Rattle.std.specs.Prelude.{Option, Some, None}
 use lib.Ieee.{Float, binary32, neg, lt}
 use Rattle.floats.proofs.Laws.Product.{neg_square}
@@ -8,10 +8,10 @@ use Rattle.floats.specs.Ops.{◌⊘◌}
 use Rattle.floats.specs.Compare.{abs}
 use Rattle.math.specs.Math.{zero}
 use Rattle.wind.specs.declared.drag.AxisDrag.{AxisDrag}
-use Rattle.wind.specs.declared.drag.AirVelocity.TheVariants.{Unknown, Along}
+use Rattle.wind.specs.declared.drag.AirVelocity.{AirVelocity}
 use Rattle.wind.specs.Drag.{slope, still_air, newton_step, against, air_velocity}
 use Rattle.wind.specs.Wind.{noise}
-use Rattle.wind.specs.Inner.{three_steps, air_and_slope, with_slope, noise_by_slope}
+use Rattle.wind.specs.Inner.{along, three_steps, air_and_slope, with_slope, noise_by_slope}
 
 -- ---- the slope is the same for an air velocity and its opposite
 
@@ -43,26 +43,31 @@ module _ (axis : AxisDrag) (force axial : Float) where
       quotient : Float
       quotient = against force (abs force ⊘ axis.mu_per_s)
 
-      go : (b c : Bool) → cond b (Along (against force fourth) (slope axis fourth axial)) (cond c (Along quotient (slope axis quotient axial)) Unknown)
+      go : (b c : Bool) → cond b (Some (along (against force fourth) (slope axis fourth axial))) (cond c (Some (along quotient (slope axis quotient axial))) None)
           ≡ with_slope axis axial (cond b (Some (against force fourth)) (cond c (Some quotient) None))
       go true c = rw (slope_against axis force fourth axial)
       go false true = refl
       go false false = refl
 
-  pub air_handed_on : (air rise : Float) → Along air rise ≡ air_and_slope axis force axial
+  pub air_handed_on : (air rise : Float) → Some (along air rise) ≡ air_and_slope axis force axial
       → (air_velocity axis force axial ≡ Some air) × (rise ≡ slope axis air axial)
   unfolding with_slope
   air_handed_on air rise e = go (air_velocity axis force axial) (e ∙ slope_handed_on)
     where
-      go : (o : Option Float) → Along air rise ≡ with_slope axis axial o → (o ≡ Some air) × (rise ≡ slope axis air axial)
+      go : (o : Option Float) → Some (along air rise) ≡ with_slope axis axial o → (o ≡ Some air) × (rise ≡ slope axis air axial)
       go None e = absurd cc
-      go (Some a) e = (cc, cc)
+      go (Some a) e =
+          let same : along air rise ≡ along a (slope axis a axial) = cc in
+          let number : air ≡ a = ap (λ (v : AirVelocity). v.along_mps) same in (
+            ap Some (sym number),
+            ap (λ (v : AirVelocity). v.slope_per_s) same ∙ ap (λ (z : Float). slope axis z axial) (sym number),
+          )
 
-  pub none_handed_on : Unknown ≡ air_and_slope axis force axial → air_velocity axis force axial ≡ None
+  pub none_handed_on : None ≡ air_and_slope axis force axial → air_velocity axis force axial ≡ None
   unfolding with_slope
   none_handed_on e = go (air_velocity axis force axial) (e ∙ slope_handed_on)
     where
-      go : (o : Option Float) → Unknown ≡ with_slope axis axial o → o ≡ None
+      go : (o : Option Float) → None ≡ with_slope axis axial o → o ≡ None
       go None e = refl
       go (Some a) e = absurd cc
 

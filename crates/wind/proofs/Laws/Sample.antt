@@ -1,6 +1,7 @@
 -- Which states give no sample: those of a craft that is tilted too far or too fast along the thrust axis, and those whose velocity, acceleration or
 -- attitude is not finite. Every other state gives one. Assumes nothing.
-use Rattle.std.proofs.Common.{◌≡◌, ℕ, Bool, true, false, cond, ◌&&◌, T, refl, arith}
+use Rattle.std.specs.Prelude.{None, Option, Some}
+use Rattle.std.proofs.Common.{◌≡◌, Bool, true, false, cond, ◌&&◌, T, refl}
 use lib.Ieee.{Float, binary32, neg, lt, sub}
 use lib.Ieee.Fits.{and_l, and_r}
 use lib.Ieee.Scale.{finite}
@@ -14,8 +15,6 @@ use Rattle.math.specs.declared.vectors.Vec3.{Vec3}
 use Rattle.math.specs.declared.vectors.Quaternion.{Quaternion}
 use Rattle.wind.specs.declared.state.VehicleState.{VehicleState}
 use Rattle.wind.specs.declared.sample.Sample.{Sample}
-use Rattle.wind.specs.declared.sample.Sampled.{Sampled}
-use Rattle.wind.specs.declared.sample.Sampled.TheVariants.{Nothing, Taken}
 use Rattle.wind.specs.Sample.{min_tilt_cosine, rotation, body_axes, dot3, specific_force_ned, sample_finite, along, from_state}
 
 pub either_way : {A : Type 0} (b : Bool) (x : A) → cond b x x ≡ x
@@ -29,34 +28,31 @@ abbrev pub sample_of : VehicleState → Sample
 sample_of state = along (body_axes state.attitude) state
 
 module _ (state : VehicleState) (limit : Float) where
-  pub skips_tilted : lt (body_axes state.attitude).z.z min_tilt_cosine ≡ true → from_state state limit ≡ Nothing
+  pub skips_tilted : lt (body_axes state.attitude).z.z min_tilt_cosine ≡ true → from_state state limit ≡ None
   unfolding from_state
   skips_tilted e = rw e
 
-  pub skips_fast : lt limit (abs (sample_of state).axial_mps) ≡ true → from_state state limit ≡ Nothing
+  pub skips_fast : lt limit (abs (sample_of state).axial_mps) ≡ true → from_state state limit ≡ None
   unfolding from_state
-  skips_fast e = rw e (either_way (lt (body_axes state.attitude).z.z min_tilt_cosine) Nothing)
+  skips_fast e = rw e (either_way (lt (body_axes state.attitude).z.z min_tilt_cosine) None)
 
-  pub skips_not_finite : sample_finite (sample_of state) ≡ false → from_state state limit ≡ Nothing
+  pub skips_not_finite : sample_finite (sample_of state) ≡ false → from_state state limit ≡ None
   unfolding from_state
   skips_not_finite e =
-      rw (e, either_way (lt limit (abs (sample_of state).axial_mps)) Nothing)
-      (either_way (lt (body_axes state.attitude).z.z min_tilt_cosine) Nothing)
+      rw (e, either_way {A = Option Sample} (lt limit (abs (sample_of state).axial_mps)) None)
+      (either_way (lt (body_axes state.attitude).z.z min_tilt_cosine) None)
 
   -- a sample that is taken is this one, and finite
-  pub taken_is : (sample : Sample) → from_state state limit ≡ Taken sample → (sample_of state ≡ sample) × T (sample_finite (sample_of state))
+  pub taken_is : (sample : Sample) → from_state state limit ≡ Some sample → (sample_of state ≡ sample) × T (sample_finite (sample_of state))
   unfolding from_state
   taken_is sample =
       go (lt (body_axes state.attitude).z.z min_tilt_cosine) (lt limit (abs (sample_of state).axial_mps)) (sample_finite (sample_of state)) refl
     where
-      never : Nothing ≡ Taken sample → ⊥
-      never e = let z : ◌≡◌ {A = ℕ} 0 1 = cc in omega arith
-
-      go : (b c d : Bool) → sample_finite (sample_of state) ≡ d → cond b Nothing (cond c Nothing (cond d (Taken (sample_of state)) Nothing)) ≡ Taken sample
+      go : (b c d : Bool) → sample_finite (sample_of state) ≡ d → cond b None (cond c None (cond d (Some (sample_of state)) None)) ≡ Some sample
           → (sample_of state ≡ sample) × T (sample_finite (sample_of state))
-      go true c d f e = absurd (never e)
-      go false true d f e = absurd (never e)
-      go false false false f e = absurd (never e)
+      go true c d f e = cc
+      go false true d f e = cc
+      go false false false f e = cc
       go false false true f e = (cc, rw f tt)
 
 -- ---- what is finite in a state that gives a sample
@@ -116,7 +112,7 @@ sample_parts sample h =
       and_l (finite sample.ground_along_mps.x) (finite sample.ground_along_mps.y) (and_r force ground both),
     )
 
-pub taken_finite : (state : VehicleState) (limit : Float) (sample : Sample) → from_state state limit ≡ Taken sample → FiniteState state
+pub taken_finite : (state : VehicleState) (limit : Float) (sample : Sample) → from_state state limit ≡ Some sample → FiniteState state
 unfolding along
 taken_finite state limit sample e =
     let parts = sample_parts (sample_of state) (taken_is state limit sample e).1 in
@@ -140,18 +136,18 @@ pub data Unusable (state : VehicleState) (limit : Float) : Type 0 where
   sample_not_finite : sample_finite (sample_of state) ≡ false → Unusable state limit
   state_not_finite : (FiniteState state → ⊥) → Unusable state limit
 
-pub unusable_skipped : (state : VehicleState) (limit : Float) → Unusable state limit → from_state state limit ≡ Nothing
+pub unusable_skipped : (state : VehicleState) (limit : Float) → Unusable state limit → from_state state limit ≡ None
 unusable_skipped state limit (tilted e) = skips_tilted state limit e
 unusable_skipped state limit (fast e) = skips_fast state limit e
 unusable_skipped state limit (sample_not_finite e) = skips_not_finite state limit e
 unusable_skipped state limit (state_not_finite n) = go (from_state state limit) refl
   where
-    go : (s : Sampled) → from_state state limit ≡ s → s ≡ Nothing
-    go Nothing e = refl
-    go (Taken sample) e = absurd (n (taken_finite state limit sample e))
+    go : (s : Option Sample) → from_state state limit ≡ s → s ≡ None
+    go None e = refl
+    go (Some sample) e = absurd (n (taken_finite state limit sample e))
 
 -- and no other
 pub usable_taken : (state : VehicleState) (limit : Float) → lt (body_axes state.attitude).z.z min_tilt_cosine ≡ false
-    → lt limit (abs (sample_of state).axial_mps) ≡ false → sample_finite (sample_of state) ≡ true → from_state state limit ≡ Taken (sample_of state)
+    → lt limit (abs (sample_of state).axial_mps) ≡ false → sample_finite (sample_of state) ≡ true → from_state state limit ≡ Some (sample_of state)
 unfolding from_state
 usable_taken state limit t f e = rw (t, f, e)

@@ -1,5 +1,6 @@
 -- The window with accepted time steps: specs/Window.antt's `WindowCloses`, that it closes after at most 820 samples and at the least step at the
 -- 820th. So its count neither overflows nor loses a digit as a float, and the time elapsed is finite. Assumes nothing.
+use Rattle.std.specs.Prelude.{None, Option, Some}
 use Rattle.std.proofs.Common.{◌≡◌, ℕ, zero, suc, ◌+◌, ◌%◌, ◌^◌, ◌≤◌, Bool, true, false, cond, T, ◌⊎◌, List, [], ◌∷◌, length, take}
 use Rattle.std.proofs.Common.{refl, ◌∙◌, inl, inr, ⊎_elim, le_of_suc-le-suc, add-zero, mul-le-mul_right, mod-eq_of_lt, lt_of_not-le, zero-add}
 use Rattle.std.proofs.Common.{arith, lit<, lit≤}
@@ -19,10 +20,7 @@ use Rattle.controllers.specs.RateDivider.{shortest, Accepted}
 use Rattle.wind.specs.declared.state.VehicleState.{VehicleState}
 use Rattle.wind.specs.declared.drag.WindConfig.{WindConfig}
 use Rattle.wind.specs.declared.sample.Sample.{Sample}
-use Rattle.wind.specs.declared.sample.Sampled.{Sampled}
-use Rattle.wind.specs.declared.sample.Sampled.TheVariants.{Nothing, Taken}
 use Rattle.wind.specs.declared.window.Window.{Window}
-use Rattle.wind.specs.declared.window.Filter.TheVariants.{Estimate}
 use Rattle.wind.specs.declared.window.WindEstimator.{WindEstimator}
 use Rattle.wind.specs.Drag.{is_on}
 use Rattle.wind.specs.Sample.{from_state}
@@ -130,18 +128,18 @@ short_or_long w x y false e l f = inr (refl, rw (le_not_lt update_period w.elaps
 gathered_cases : (self : WindEstimator) (dt : Float) (config : WindConfig) (sample : Sample) → OneMore self.window (grown self.window dt sample) →
     let w = grown self.window dt sample in
     ((gathered self dt config sample ≡ record { filter = self.filter; window = w }) × OpenWindow w)
-    ⊎ ((gathered self dt config sample ≡ record { filter = Estimate (closed self.filter config w); window = empty })
+    ⊎ ((gathered self dt config sample ≡ record { filter = Some (closed self.filter config w); window = empty })
     × T (le update_period w.elapsed_s))
 unfolding gathered
 gathered_cases self dt config sample m =
     let w = grown self.window dt sample in
     short_or_long w _ _ (lt w.elapsed_s update_period) refl m.long m.is_finite
 
-sample_cases : (sampled : Sampled) (self : WindEstimator) (dt : Float) (config : WindConfig) → OpenWindow self.window → Accepted dt
+sample_cases : (sampled : Option Sample) (self : WindEstimator) (dt : Float) (config : WindConfig) → OpenWindow self.window → Accepted dt
     → Updated self config (taken sampled self dt config)
 unfolding taken
-sample_cases Nothing self dt config o a = unchanged
-sample_cases (Taken sample) self dt config o a =
+sample_cases None self dt config o a = unchanged
+sample_cases (Some sample) self dt config o a =
     let w = grown self.window dt sample in
     let m = grown_counts self.window dt sample o a in
     ⊎_elim (λ p. rw p.0 (open_still w m p.1)) (λ p. rw p.0 (finished w m p.1)) (gathered_cases self dt config sample m)
@@ -186,7 +184,7 @@ updates_same config samples e = rw e
 module _ (self : WindEstimator) (config : WindConfig) (next : AcceptedSample config) (samples : List (AcceptedSample config))
     (m : OneMore self.window (wider self.window next)) where
   closes_now : update self next.dt config next.state
-      ≡ record { filter = Estimate (closed self.filter config (wider self.window next)); window = empty }
+      ≡ record { filter = Some (closed self.filter config (wider self.window next)); window = empty }
       → T (le update_period (wider self.window next).elapsed_s) → ClosesAt self config (next ∷ samples) 1
   unfolding updates sums
   closes_now e l =

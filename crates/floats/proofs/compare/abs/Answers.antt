@@ -1,24 +1,22 @@
 -- `floats::compare::abs` meets its contract: without the sign's bit a pattern is that of the size. Assumes nothing.
-use Rattle.std.proofs.Common.{T, sym, subst}
+use Rattle.std.proofs.Common.{sym, ◌∙◌}
+use Rattle.std.proofs.lemmas.Float.{T_from_true}
 use lib.Ieee.{binary32}
 use lib.Ieee.Bits.{nan_bits_is}
 use Rattle.floats.specs.Compare.{abs}
 use Rattle.floats.proofs.Laws.Order.{abs_number}
 use Rattle.floats.proofs.Laws.Sign.{clear_sign}
-use Rattle.floats.proofs.Laws.Special.{nan_by_ne, number_by_ne}
+use Rattle.floats.proofs.Laws.Special.{is_nan_lem}
 use Rattle.floats.proofs.compare.abs.Goals as goal
 
-pub returns-then-x : goal.returns-then-x
+pub returns-then-is_nan : goal.returns-then-is_nan
 unfolding abs
-returns-then-x c = rw (nan_by_ne c.args.x c.if-x.true)
-
-pub float_to_bits-result : goal.float_to_bits-result
-float_to_bits-result c = rw (number_by_ne c.args.x c.if-x.false) tt
+returns-then-is_nan c = rw (is_nan_lem c.args.x (sym c.is_nan.ensures.value ∙ c.if-is_nan.true))
 
 pub float_from_bits-result : goal.float_from_bits-result
 float_from_bits-result c =
     let x = c.args.x in
-    rw (nan_bits_is, clear_sign binary32 x (subst T (sym c.well_formed.0.1) tt), abs_number x, number_by_ne x c.if-x.false) tt
+    rw (nan_bits_is, clear_sign binary32 x (T_from_true _ c.well_formed.0.1), abs_number x, sym c.is_nan.ensures.value ∙ c.if-is_nan.false) tt
 
 pub returns : goal.returns
-returns c = clear_sign binary32 c.args.x (subst T (sym c.well_formed.0.1) tt)
+returns c = clear_sign binary32 c.args.x (T_from_true _ c.well_formed.0.1)

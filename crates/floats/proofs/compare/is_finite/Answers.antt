@@ -1,8 +1,15 @@
--- `floats::compare::is_finite` meets its contract: x - x is a zero only where x is finite. Assumes nothing.
-use lib.Ieee.{binary32, of_bits}
-use Rattle.floats.proofs.Laws.Special.{sub_itself}
+-- `floats::compare::is_finite` meets its contract: std's word for it is the logic's. Assumes nothing.
+use Rattle.std.proofs.Common.{◌≡◌, refl, ◌∙◌}
+use Rattle.std.specs.Float.{float_is_finite}
+use lib.Ieee.{Float, nan, inf, fin}
+use lib.Ieee.Scale.{finite}
 use Rattle.floats.proofs.compare.is_finite.Goals as goal
 
+same_word : (x : Float) → float_is_finite x ≡ finite x
+unfolding float_is_finite
+same_word nan = refl
+same_word (inf s) = refl
+same_word (fin s m e) = refl
+
 pub returns : goal.returns
-unfolding of_bits
-returns c = sub_itself binary32 c.args.x
+returns c = c.is_finite.ensures.value ∙ same_word c.args.x

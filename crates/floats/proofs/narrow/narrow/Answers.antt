@@ -4,7 +4,7 @@ use lib.Ieee.{Float, fits, binary32, binary64, to_bits, of_bits}
 use lib.Ieee.Bits.{of_bits-to_bits, to_bits-lt}
 use Rattle.floats.proofs.Laws.Narrow.{sum, sum_number, sum_range, small_by_sum, normal_pattern, large_pattern, made_word, made_pattern, made_number, made_for}
 use Rattle.floats.proofs.Laws.Round.{convert_nan}
-use Rattle.floats.proofs.Laws.Special.{no_quotient, nan_by_ne, number_by_ne, up_to_infinity}
+use Rattle.floats.proofs.Laws.Special.{quiet_nan, is_nan_lem, up_to_infinity}
 use Rattle.floats.specs.Narrow.{convert}
 use Rattle.floats.proofs.narrow.narrow.Goals as goal
 use Rattle.floats.proofs.narrow.narrow.Goals.{else-size-ge-NORMAL-via-then-size-ge-NORMAL+else-size-lt-TOO_LARGE, else-size-ge-NORMAL-via-else-size-ge-NORMAL}
@@ -19,11 +19,9 @@ read_back x h = of_bits-to_bits binary64 x (subst T (sym h) tt)
 in_range : (x : Float) → fits binary64 x ≡ true → bits x < 2 ^ 64
 in_range x h = to_bits-lt binary64 x (subst T (sym h) tt)
 
-pub returns-then-x : goal.returns-then-x
-returns-then-x c = no_quotient ∙ sym (ap (convert binary32) (nan_by_ne c.args.x c.if-x.true) ∙ convert_nan binary32)
-
-pub float_to_bits-bits : goal.float_to_bits-bits
-float_to_bits-bits c = rw (number_by_ne c.args.x c.if-x.false) tt
+pub returns-then-is_nan : goal.returns-then-is_nan
+returns-then-is_nan c =
+    quiet_nan ∙ sym (ap (convert binary32) (is_nan_lem c.args.x (sym c.is_nan.ensures.value ∙ c.if-is_nan.true)) ∙ convert_nan binary32)
 
 pub overflow_mul-sign : goal.overflow_mul-sign
 overflow_mul-sign c = omega (arith, in_range c.args.x c.well_formed.0.1)
@@ -105,4 +103,4 @@ pub returns : goal.returns
 returns c =
     let x = c.args.x in
     made_for x (bits x) _ (in_range x c.well_formed.0.1)
-    (large_pattern x (bits x) (read_back x c.well_formed.0.1) (above c) (number_by_ne x c.if-x.false))
+    (large_pattern x (bits x) (read_back x c.well_formed.0.1) (above c) (sym c.is_nan.ensures.value ∙ c.if-is_nan.false))

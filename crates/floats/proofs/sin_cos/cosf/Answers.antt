@@ -1,13 +1,13 @@
 -- `floats::sin_cos::cosf` meets its contract: the pattern of the size chooses the case. Assumes nothing.
 use Rattle.std.proofs.Common.{sym, ap, ◌∙◌}
 use Rattle.floats.specs.SinCos.{cosf, k_cosf}
-use Rattle.floats.proofs.Laws.Special.{nan_by_ne}
+use Rattle.floats.proofs.Laws.Special.{is_nan_lem}
 use Rattle.floats.proofs.Laws.Ranges.{size_small, size_first, size_near, size_far, size_beyond}
 use Rattle.floats.proofs.Laws.SinCos.{cosf_nan}
 use Rattle.floats.proofs.sin_cos.cosf.Goals as goal
 
-pub returns-then-x : goal.returns-then-x
-returns-then-x c = rw (nan_by_ne c.args.x c.if-x.true) (sym cosf_nan)
+pub returns-then-is_nan : goal.returns-then-is_nan
+returns-then-is_nan c = rw (is_nan_lem c.args.x (sym c.is_nan.ensures.value ∙ c.if-is_nan.true)) (sym cosf_nan)
 
 pub returns-then-size-lt-TINY : goal.returns-then-size-lt-TINY
 unfolding cosf

@@ -22,8 +22,8 @@ overflow_mul-base c = omega (arith, bits_below c.args.x (subst T (sym c.well_for
 pub overflow_cast-base : goal.overflow_cast-base
 overflow_cast-base c = omega (arith, bits_below c.args.x (subst T (sym c.well_formed.0.1) tt) c.requires.above_zero c.requires.normal)
 
-pub returns : goal.returns
-returns c e =
+pub returns-then-q-k : goal.returns-then-q-k
+returns-then-q-k c e =
     let x = c.args.x in
     let fit : T (fits binary32 x) = subst T (sym c.well_formed.0.1) tt in
     let b = to_bits binary32 x in

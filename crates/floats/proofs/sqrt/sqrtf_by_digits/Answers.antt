@@ -2,7 +2,7 @@
 -- other number by `sqrt_pattern`. Assumes nothing.
 use Rattle.std.proofs.Common.{◌≡◌, ℕ, ◌+◌, ◌-◌, ◌*◌, ◌/◌, ◌^◌, ◌<◌, ◌≤◌, true, false, T, sym, refl, ap, ◌∙◌, subst, inl, inr, arith}
 use Rattle.std.proofs.lemmas.Float.{T_from_true}
-use lib.Ieee.{Float, nan, inf, binary32, binary64, fits, nan_bits, of_bits, to_bits, lt, eq, div, fin}
+use lib.Ieee.{Float, nan, inf, binary32, binary64, fits, of_bits, to_bits, lt, eq, fin}
 use lib.Ieee.Positive.{positive, above}
 use lib.Ieee.Bits.{of_bits-to_bits}
 use Rattle.floats.specs.Sqrt.{sqrt}
@@ -11,6 +11,7 @@ use Rattle.floats.proofs.Laws.Sqrt.Special.{sqrt_nan, sqrt_zero, sqrt_infinity, 
 use Rattle.floats.proofs.Laws.Sqrt.Special.{AgainstZero, not_a_number, below_zero, at_least_zero, against_zero}
 use Rattle.floats.proofs.Laws.Sqrt.Special.{above_of_lt, lt_of_above, above_of_positive, positive_or_infinite, upto_infinity}
 use Rattle.floats.proofs.Laws.Sqrt.Pattern.{exponent, root, field, field_in, root_in, sqrt_pattern}
+use Rattle.floats.proofs.Laws.Special.{quiet_nan}
 use Rattle.floats.proofs.sqrt.sqrtf_by_digits.Goals as goal
 
 -- ---- the constants in the code
@@ -21,10 +22,6 @@ zero_is = refl
 infinity_is : of_bits binary32 2139095040 ≡ inf false
 unfolding of_bits
 infinity_is = refl
-
-nan_is : div binary32 zero zero ≡ nan
-unfolding div
-nan_is = refl
 
 -- ---- what the tests say
 no_root : (x : Float) → eq x zero ≡ false → lt zero x ≡ false → sqrt binary32 x ≡ nan
@@ -62,13 +59,8 @@ returns-then-x c = sym (sqrt_zero binary32 c.args.x (subst (λ (z : Float). T (e
 pub returns-then-not-x : goal.returns-then-not-x
 returns-then-not-x c =
     let x = c.args.x in
-    ap (λ (z : Float). div binary32 z z) zero_is
-    ∙ nan_is
+    quiet_nan
     ∙ sym (no_root x (subst (λ (z : Float). eq x z ≡ false) zero_is c.if-x.false) (subst (λ (z : Float). lt z x ≡ false) zero_is c.if-not-x.true))
-
-pub float_from_bits-t-9 : goal.float_from_bits-t-9
-unfolding nan_bits
-float_from_bits-t-9 c = tt
 
 pub returns-then-x-2 : goal.returns-then-x-2
 returns-then-x-2 c =

@@ -1,33 +1,33 @@
--- `records::read::read_fields` meets its contract: a step adds the float at `i`, and at 50 the fields are all of them. Assumes nothing.
-use Prim.Native.Nat.{ℕ, ◌+◌, ◌*◌, ◌<◌}
-use native.Mathlib.Omega.{arith}
-use native.Mathlib.Numerals.{add-one}
-use mathlib.Core.Path.{◌≡◌, refl, sym, ap, ◌∙◌}
-use lib.ListN.{length, length-set}
-use lib.Seq.{take_all, take-suc-set}
+-- `records::read::read_fields` meets its contract: each float that it takes is the body's at that place. Assumes nothing.
+use Rattle.std.proofs.Common.{rules, ◌≡◌, ℕ, zero, suc, ◌+◌, ◌*◌, ◌≤◌, ◌<◌, length, get_or, List, Float, sym, ap, subst, ◌∙◌, arith}
+use Rattle.std.proofs.lemmas.List.{same_lists}
+use Rattle.std.specs.Array.{IsFromFnResultFrom}
+use Rattle.std.specs.Fn.{Called}
+use denote.Param.Members.{Mut}
+use Rattle.copter.proofs.Laws.Config.{here_or_later}
 use Rattle.records.specs.Layout.{float_at, floats_from}
-use Rattle.records.proofs.Laws.Layout.{floats_last}
+use Rattle.records.proofs.Laws.Layout.{floats_counted, floats_at}
 use Rattle.records.proofs.read.read_fields.Goals as goal
 
-pub loop-i-init : goal.loop-i-init
-unfolding floats_from
-loop-i-init c = (omega arith, refl, refl)
-
-pub loop-i-preserved : goal.loop-i-preserved
-loop-i-preserved c =
-    let at = c.loop-i in
-    let body = c.args.body.now in
-    let place : at.i * 4 ≡ 0 + 4 * at.i = omega arith in
-    let inside : at.i < length at.fields = omega arith in
-    let float = c.read_f32.ensures ∙ ap (float_at body) place in (
-      omega arith,
-      length-set at.fields at.i c.read_f32.result ∙ at.invariant.1,
-      rw (add-one, take-suc-set at.fields at.i c.read_f32.result inside, at.invariant.2, floats_last 0 at.i body, float),
-    )
+-- what a closure that stays as it is gave at each number from i on, n of them
+module _ {F B : Type 0} (g : Mut F (ℕ × Unit {0}) B) (f : F) (ys : List B) (value : ℕ → B)
+    (gives : (k : ℕ) (y : B) (q : F) → Called g f (k, tt) y q → (q ≡ f) × (y ≡ value k)) where
+  each_value : (n i : ℕ) → IsFromFnResultFrom g f ys i n → (k : ℕ) → i ≤ k → k < i + n → (d : B) → get_or ys k d ≡ value k
+  each_value zero i calls k low high d = absurd (omega arith)
+  each_value (suc n) i calls k low high d =
+      let same = gives i calls.1 calls.0 calls.3 in
+      here_or_later (λ (m : ℕ). get_or ys m d ≡ value m) i k low (calls.2.1 d ∙ same.1)
+      (λ later.
+      each_value n (i + 1) (subst (λ (p : F). IsFromFnResultFrom g p ys (i + 1) n) same.0 calls.4) k (omega arith) (omega arith) d)
 
 pub returns : goal.returns
 returns c =
-    let at = c.loop-i in
     let body = c.args.body.now in
-    let full : at.i ≡ 50 = omega arith in
-    sym (take_all at.i at.fields (omega arith)) ∙ at.invariant.2 ∙ ap (λ (n : ℕ). floats_from 0 n body) full
+    same_lists c.from_fn.result (floats_from 0 50 body) (c.from_fn.ensures.items.long ∙ sym (floats_counted 0 50 body))
+    (λ (k : ℕ) (d : Float) (h : k < length c.from_fn.result).
+    let inside : k < 50 = rw c.from_fn.ensures.items.long at h in
+    let taken : get_or c.from_fn.result k d ≡ float_at body (k * 4) =
+    each_value _ _ c.from_fn.result (λ (n : ℕ). float_at body (n * 4)) (λ n y q called. search rules) 50 0 c.from_fn.ensures.items.each k
+    (omega arith) inside d in
+    let place : k * 4 ≡ 0 + 4 * k = omega arith in
+    taken ∙ ap (float_at body) place ∙ sym (floats_at 0 50 k body d inside))

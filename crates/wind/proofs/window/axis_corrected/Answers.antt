@@ -10,7 +10,7 @@ returns-in_default c = rw (none_handed_on _ _ _ c.in_default.ensures.in_steps)
 pub returns : goal.returns
 unfolding axis_corrected
 returns c =
-    let handed = air_handed_on _ _ _ _ _ c.in-Along.ensures.in_steps in
+    let handed = air_handed_on _ _ _ c.in-Some.air.along_mps c.in-Some.air.slope_per_s c.in-Some.ensures.in_steps in
     rw (
       handed.0,
       c.correct.ensures,

@@ -1,0 +1,6 @@
+-- `buffers::Buffer::run`: what is held is what the turns so far left.
+use Rattle.buffers.specs.Turns.{Underway}
+use Rattle.buffers.proofs.Buffer.run.Given as goal
+
+abbrev pub invariant-loop : goal.invariant-loop
+invariant-loop g l = Underway g.P.Program.turned (g.R.Read.remaining l.fn.reader) l.fn.program l.fn.self l.counter (g.R.Read.remaining l.reader) l.program l.self

@@ -1,7 +1,0 @@
--- `copter::memory::CopterGuidance::absolute_attitude` meets its contract. Assumes nothing.
-use Rattle.copter.specs.Guide.{guide_call}
-use Rattle.copter.proofs.memory.CopterGuidance.absolute_attitude.Goals as goal
-
-pub returns : goal.returns
-unfolding guide_call
-returns c = rw c.guide.ensures

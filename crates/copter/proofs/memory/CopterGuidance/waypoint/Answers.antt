@@ -1,7 +1,0 @@
--- `copter::memory::CopterGuidance::waypoint` meets its contract. Assumes nothing.
-use Rattle.copter.specs.Guide.{guide_call}
-use Rattle.copter.proofs.memory.CopterGuidance.waypoint.Goals as goal
-
-pub returns : goal.returns
-unfolding guide_call
-returns c = rw c.guide.ensures

@@ -1,0 +1,30 @@
+-- A turn of the program: a record. Assumes nothing.
+use Rattle.std.specs.Prelude.{ℕ, Bool, false, List, Option, IfSome, ◌≡◌, replicate}
+use Rattle.copter.specs.declared.commands.Flags.{Flags}
+use Rattle.records.specs.declared.answer.Answer.{Answer}
+use Rattle.records.specs.declared.answer.Answer.TheVariants.{Attitude, BodyRate, Refused, Done, NoWind, Wind}
+use Rattle.records.specs.Step.{Outcome, step}
+use Rattle.steps.specs.declared.flight.Flight.{Flight}
+
+-- the flags of the last call; a configure and a priming clear them
+abbrev pub flags_after : Flags → Answer → Flags
+flags_after before (Attitude setpoint flags) = flags
+flags_after before (BodyRate setpoint flags) = flags
+flags_after before Done = record { tilt = false; thrust = false; idle = false }
+flags_after before (Refused refusal) = before
+flags_after before NoWind = before
+flags_after before (Wind estimate) = before
+
+-- what comes of the record that the bytes start with
+abbrev pub outcome : Flight → List ℕ → Outcome
+outcome flight bytes = step flight.craft bytes (replicate 32 0)
+
+abbrev pub after_outcome : Flags → Outcome → Flight
+after_outcome before o = record { craft = o.craft; flags = flags_after before o.answer }
+
+abbrev pub after_record : Flight → List ℕ → Flight
+after_record flight bytes = after_outcome flight.flags (outcome flight bytes)
+
+-- A turn that the flight goes on from handled one record and took its bytes.
+abbrev pub Turned : Flight → List ℕ → Bool → Option ℕ → Flight → Type 0
+Turned before held ended taken after = IfSome taken (λ n. (n ≡ (outcome before held).taken) × (after ≡ after_record before held))

@@ -1,5 +1,6 @@
 -- Altitude control, from controllers/altitude.rs. Assumes nothing.
-use Rattle.std.specs.Prelude.{cond, ◌&&◌, Float}
+use Rattle.std.specs.Prelude.{cond, ◌&&◌, List, get_or, Float}
+use Rattle.std.specs.Float.{nan}
 use Rattle.std.specs.Float.Ieee.{lt}
 use Rattle.std.specs.Float.Ieee.Scale.{finite}
 use Rattle.floats.specs.Ops.{◌⊕◌, ◌⊖◌, ◌⊗◌, ◌⊘◌}
@@ -12,6 +13,16 @@ use Rattle.altitude.specs.declared.AltitudeTarget.{AltitudeTarget}
 use Rattle.altitude.specs.declared.AltitudeEstimate.{AltitudeEstimate}
 use Rattle.altitude.specs.declared.AltitudeController.{AltitudeController}
 use Rattle.altitude.specs.declared.AltitudeControl.{AltitudeControl}
+
+-- the configuration of six numbers, in the order of its fields
+abbrev pub config_of : List Float → AltitudeControllerConfig
+config_of values =
+    record {
+      gains = record { p = get_or values 0 nan; i = get_or values 1 nan; d = get_or values 2 nan };
+      max_integral = get_or values 3 nan;
+      hover_thrust = get_or values 4 nan;
+      integration_band_m = get_or values 5 nan;
+    }
 
 -- nothing integrated yet
 unfoldable pub fresh : AltitudeController

@@ -2,7 +2,7 @@
 #![tactic(auto)]
 
 ghost use Rattle.std.specs.Prelude.{◌≡◌};
-ghost use Rattle.altitude.specs.Altitude.{fresh, control, integrated, thrust};
+ghost use Rattle.altitude.specs.Altitude.{config_of, fresh, control, integrated, thrust};
 
 use controllers::Gains;
 use floats::compare::is_finite;
@@ -18,6 +18,21 @@ pub struct AltitudeControllerConfig {
     pub max_integral: f32,
     pub hover_thrust: f32,
     pub integration_band_m: f32,
+}
+
+// From the numbers in the order of the fields.
+impl From<[f32; 6]> for AltitudeControllerConfig {
+    ghost from_gives = { λ fields config. config ≡ config_of fields };
+
+    fn from(fields: [f32; 6]) -> AltitudeControllerConfig {
+        let [p, i, d, max_integral, hover_thrust, integration_band_m] = fields;
+        AltitudeControllerConfig {
+            gains: Gains { p, i, d },
+            max_integral,
+            hover_thrust,
+            integration_band_m,
+        }
+    }
 }
 
 #[derive(Clone, Copy)]

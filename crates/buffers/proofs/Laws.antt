@@ -1,4 +1,4 @@
 -- Laws of moved bytes and of held ones.
-pub mod Ended
+pub mod Came
 pub mod Held
 pub mod Moved

@@ -1,13 +1,14 @@
 // The loop that every program is: it reads, the program answers what it can of the bytes that are held,
 // and the rest is kept for the next turn.
-ghost use Rattle.std.specs.Prelude.{◌≡◌, ◌+◌, ◌≤◌, length, ℕ, Bool, List, [], Option, IfSome, ⊤};
-ghost use Rattle.buffers.specs.Buffers.{Reads};
-ghost use Rattle.buffers.specs.Turns.{Turned, Underway};
+ghost use Rattle.std.specs.Prelude.{◌≤◌, length, ℕ, List, Option, IfSome, ⊤};
+ghost use Rattle.buffers.specs.Buffers.{Reads, Gives};
+ghost use Rattle.buffers.specs.Turns.{Turned};
 
 use crate::Buffer;
 use std::io::{Read, Write};
 
-// What one turn reads.
+// What one turn reads. A closure that reads would owe what these promise of a read, and no exported
+// function asks anything of its caller.
 #[derive(Clone, Copy)]
 pub enum Reading {
     // What one read gives, so that the answers come out as the input comes in.
@@ -19,29 +20,32 @@ pub enum Reading {
 }
 
 pub trait Program {
-    // What a turn is: of the program before it, the bytes held, whether no more came, the count of
-    // bytes taken and the program after it.
-    ghost turned: { Self → List ℕ → Bool → Option ℕ → Self → Type 0 } = { λ _ _ _ _ _. ⊤ };
+    // What a turn is: of the program before it, the bytes held, what the read gave, the count of bytes
+    // taken and the program after it.
+    ghost turned: { Self → List ℕ → Option ℕ → Option ℕ → Self → Type 0 } = { λ _ _ _ _ _. ⊤ };
 
     // Answers what it can of the bytes held and gives the count of those that it took; none where it
-    // stops. `ended` says that the last read gave nothing.
-    fn turn<W: Write>(&mut self, held: &[u8], ended: bool, writer: &mut W) -> Option<usize>
+    // stops. `got` is the count of bytes that the turn's read gave, none where the read failed. 0 says
+    // that the input has ended, or that the buffer is full.
+    fn turn<W: Write>(&mut self, held: &[u8], got: Option<usize>, writer: &mut W) -> Option<usize>
         ensures within { IfSome result (λ taken. taken ≤ length held.now) }
-        ensures met { turned self.old held.now ended result self.new };
+        ensures met { turned self.old held.now got result self.new };
 }
 
 impl<const N: usize> Buffer<N> {
-    fn read_more<R: Read>(&mut self, reading: Reading, reader: &mut R) -> usize
-        ensures count { length self.new ≡ length self.old + result }
+    fn read_more<R: Read>(&mut self, reading: Reading, reader: &mut R) -> Option<usize>
         ensures reads { Reads (R.remaining reader.old) (R.remaining reader.new) self.old self.new }
+        ensures gives { Gives reading N result self.old self.new (R.remaining reader.new) }
     {
         match reading {
-            Reading::Once => self.read(reader),
-            Reading::Full => self.fill(reader),
+            Reading::Once => self.try_read(reader),
+            Reading::Full => self.try_fill(reader),
         }
     }
 
-    // Runs a program over this buffer until it stops.
+    // Runs a program over this buffer until it stops, for at most `u64::MAX` turns. Each main hands it standard
+    // input and output: a function here that did would say nothing of what is read, since no clause knows
+    // those bytes.
     pub fn run<R: Read, W: Write, P: Program>(
         &mut self,
         program: &mut P,
@@ -49,11 +53,12 @@ impl<const N: usize> Buffer<N> {
         reader: &mut R,
         writer: &mut W,
     )
-        ensures { Turned P.turned (R.remaining reader.old) program.old self.old (R.remaining reader.new) program.new }
+        ensures { Turned P.turned reading N (R.remaining reader.old) program.old self.old (R.remaining reader.new) program.new }
     {
+        // So many turns never pass, and a loop with no bound would owe a `Wait`.
         for _ in 0..u64::MAX {
             let got = self.read_more(reading, reader);
-            let Some(taken) = program.turn(self.held(), got == 0, writer) else {
+            let Some(taken) = program.turn(self.held(), got, writer) else {
                 return;
             };
             self.drop_front(taken);

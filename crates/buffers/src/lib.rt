@@ -4,13 +4,17 @@
 mod launcher;
 
 ghost use Rattle.std.specs.Prelude.{ℕ, ◌≡◌, ◌+◌, ◌-◌, ◌≤◌, ◌++◌, length, take, drop, replicate, List, []};
-ghost use Rattle.buffers.specs.Buffers.{moved, Reads};
+ghost use Rattle.buffers.specs.Buffers.{moved, Reads, Gives};
 
 pub use launcher::{Program, Reading};
 use std::io::Read;
 use std::marker::Model;
 
-// At most `N` bytes. Clauses see the list of them.
+// The bytes of a long buffer.
+pub const BUFFER: usize = 65536;
+
+// At most `N` bytes. Clauses see the list of them. A `Vec` would be on the heap, and an `ArrayVec` lends no
+// room behind its last byte to read into.
 #[derive(Drop)]
 pub struct Buffer<const N: usize> {
     bytes: [u8; N],
@@ -66,12 +70,18 @@ impl<const N: usize> Buffer<N> {
         ensures count { length self.new ≡ length self.old + result }
         ensures reads { Reads (R.remaining reader.old) (R.remaining reader.new) self.old self.new }
     {
+        self.try_read(reader).unwrap_or(0)
+    }
+
+    // The same, but none where the read fails. The others that read hand on its `reads`.
+    pub fn try_read<R: Read>(&mut self, reader: &mut R) -> Option<usize>
+        ensures reads { Reads (R.remaining reader.old) (R.remaining reader.new) self.old self.new }
+        ensures gives { Gives Reading.Once N result self.old self.new (R.remaining reader.new) }
+    {
         let all = &mut self.bytes[..];
-        let Ok(got) = reader.read(&mut all[self.held..]) else {
-            return 0;
-        };
+        let got = reader.read(&mut all[self.held..]).ok()?;
         self.held += got;
-        got
+        Some(got)
     }
 
     // Reads until it is full, the input ends or a read fails, and gives the count of bytes read.
@@ -80,12 +90,23 @@ impl<const N: usize> Buffer<N> {
         ensures reads { Reads (R.remaining reader.old) (R.remaining reader.new) self.old self.new }
     {
         let before = self.held().len();
+        self.try_fill(reader);
+        self.held().len() - before
+    }
+
+    // The same, but none where a read fails.
+    pub fn try_fill<R: Read>(&mut self, reader: &mut R) -> Option<usize>
+        ensures reads { Reads (R.remaining reader.old) (R.remaining reader.new) self.old self.new }
+        ensures gives { Gives Reading.Full N result self.old self.new (R.remaining reader.new) }
+    {
+        let before = self.room();
+        // Each read that goes on gives a byte, so `N` are enough.
         for _ in 0..N {
-            if self.room() == 0 || self.read(reader) == 0 {
+            if self.room() == 0 || self.try_read(reader)? == 0 {
                 break;
             }
         }
-        self.held().len() - before
+        Some(before - self.room())
     }
 
     // Drops the first `count` bytes and moves the others to the start.
@@ -129,7 +150,7 @@ impl<const N: usize> Sink for Buffer<N> {
 }
 
 // Moves the bytes from `from` to `end` to the start. An `end` past the buffer, or a `from` past `end`,
-// moves nothing.
+// moves nothing. Public before `Buffer` was, and here `end` may be past the bytes.
 pub fn move_down(bytes: &mut [u8], from: usize, end: usize)
     ensures { bytes.new ≡ moved bytes.old from end }
 {

@@ -13,7 +13,7 @@ use Rattle.heading.specs.declared.leg_heading.Leg.{Leg}
 use Rattle.wind.specs.declared.estimate.WindEstimate.{WindEstimate}
 use Rattle.control_c.specs.declared.memory.Held.{Held}
 use Rattle.control_c.specs.Places.{at, vec2}
-use Rattle.control_c.specs.Missing.{given, held, number_from, estimate_from, no_estimate}
+use Rattle.control_c.specs.Missing.{held, given_from, leg, number_from, estimate_from, no_estimate}
 
 -- ---- the memory
 
@@ -37,7 +37,7 @@ wind_memory m =
 abbrev pub memory : List Float → LegHeading
 memory m =
     record {
-      leg = given (record { flag = at m 0; value = record { to_m = vec2 m 1 2; bearing_rad = number_from m 3 } });
+      leg = given_from leg m 0;
       stuck_s = at m 5;
       yielding = ne (at m 6) zero;
       wind = wind_memory m;

@@ -3,12 +3,13 @@ ghost use Rattle.std.specs.Prelude.{◌≡◌};
 ghost use Rattle.control_c.specs.Calls.{state};
 ghost use Rattle.control_c.specs.HoverWind as wind;
 
-use crate::memory::{Held, estimate, number, of_estimate};
-use crate::state::vehicle_state;
+use crate::memory::{Held, Numbers, given};
 use heading::hover_wind::HoverWind;
 use math::vectors::Vec2;
 use wind::drag::WindConfig;
+use wind::estimate::WindEstimate;
 use wind::sample::Sample;
+use wind::state::VehicleState;
 use wind::window::{WindEstimator, Window};
 
 // The memory and the window's count of samples are read and replaced.
@@ -25,21 +26,8 @@ pub extern "C" fn tarragonhoe_wind(m: &mut [f32; 19], ticks: &mut u32, w: &[f32;
 fn updated(before: HoverWind, w: &[f32; 11], s: &[f32; 15]) -> HoverWind
     ensures { result ≡ wind.call before w.now (state s.now) }
 {
-    before.update(w[10], wind_config(w), w[9], vehicle_state(s))
-}
-
-fn wind_config(w: &[f32; 11]) -> WindConfig
-    ensures { result ≡ wind.config w.now }
-{
-    WindConfig {
-        ballistic_kgpm2: Vec2 { x: w[0], y: w[1] },
-        momentum_per_s: Vec2 { x: w[2], y: w[3] },
-        force_noise_mps2: w[4],
-        process_noise_mps_per_rt_s: w[5],
-        initial_sd_mps: w[6],
-        gate_sigma: w[7],
-        max_axial_speed_mps: w[8],
-    }
+    let config = WindConfig::from(<[f32; 9]>::read(w, 0));
+    before.update(w[10], config, w[9], VehicleState::from(*s))
 }
 
 fn wind_memory(m: &[f32; 19], ticks: u32) -> HoverWind
@@ -47,10 +35,10 @@ fn wind_memory(m: &[f32; 19], ticks: u32) -> HoverWind
 {
     HoverWind {
         estimator: WindEstimator {
-            filter: estimate(m, 0),
+            filter: given(m, 0),
             window: window(m, ticks),
         },
-        ground_altitude_m: number(m, 17),
+        ground_altitude_m: given(m, 17),
     }
 }
 
@@ -61,10 +49,10 @@ fn window(m: &[f32; 19], ticks: u32) -> Window
         elapsed_s: m[7],
         ticks,
         sums: Sample {
-            specific_force_mps2: Vec2 { x: m[8], y: m[9] },
-            ground_along_mps: Vec2 { x: m[10], y: m[11] },
-            axis_x: Vec2 { x: m[12], y: m[13] },
-            axis_y: Vec2 { x: m[14], y: m[15] },
+            specific_force_mps2: Vec2::read(m, 8),
+            ground_along_mps: Vec2::read(m, 10),
+            axis_x: Vec2::read(m, 12),
+            axis_y: Vec2::read(m, 14),
             axial_mps: m[16],
         },
     }
@@ -75,7 +63,7 @@ fn wind_numbers(after: HoverWind) -> [f32; 19]
 {
     let window = after.estimator.window;
     let sums = window.sums;
-    let held = of_estimate(after.estimator.filter);
+    let held = Held::of(after.estimator.filter, WindEstimate::default());
     let ground = Held::of(after.ground_altitude_m, 0.0);
     let wind = held.value;
     [

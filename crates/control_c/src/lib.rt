@@ -5,7 +5,6 @@
 mod hover_wind;
 mod leg_heading;
 mod memory;
-mod state;
 
 ghost use Rattle.std.specs.Prelude.{◌≡◌};
 ghost use Rattle.math.specs.Math.{wrap_angle};
@@ -14,13 +13,12 @@ ghost use Rattle.control_c.specs.Calls as calls;
 use altitude::{
     AltitudeControl, AltitudeController, AltitudeControllerConfig, AltitudeEstimate, AltitudeTarget,
 };
-use controllers::Gains;
 use controllers::derivative::DerivativeState;
 use lateral::{
     LateralControl, LateralController, LateralControllerConfig, LateralEstimate, LateralTarget,
 };
 use math::vectors::{Quaternion, Vec2};
-use memory::{Held, vector};
+use memory::{Held, Numbers, given};
 
 #[unsafe(no_mangle)]
 pub extern "C" fn tarragonhoe_wrap_angle(angle: f32) -> f32
@@ -46,16 +44,7 @@ fn altitude_call(integral: f32, w: &[f32; 15]) -> AltitudeControl
     let controller = AltitudeController {
         integrated_error: integral,
     };
-    let config = AltitudeControllerConfig {
-        gains: Gains {
-            p: w[0],
-            i: w[1],
-            d: w[2],
-        },
-        max_integral: w[3],
-        hover_thrust: w[4],
-        integration_band_m: w[5],
-    };
+    let config = AltitudeControllerConfig::from(<[f32; 6]>::read(w, 0));
     let target = AltitudeTarget {
         altitude_m: w[7],
         velocity_mps: w[8],
@@ -63,12 +52,7 @@ fn altitude_call(integral: f32, w: &[f32; 15]) -> AltitudeControl
     let estimate = AltitudeEstimate {
         altitude_m: w[9],
         velocity_mps: w[10],
-        attitude: Quaternion {
-            w: w[11],
-            i: w[12],
-            j: w[13],
-            k: w[14],
-        },
+        attitude: Quaternion::read(w, 11),
     };
     controller.control(config, w[6], target, estimate)
 }
@@ -85,41 +69,29 @@ fn controller(m: &[f32; 12]) -> LateralController
     ensures { result ≡ calls.memory m.now }
 {
     LateralController {
-        integrated_error: Vec2 { x: m[0], y: m[1] },
+        integrated_error: Vec2::read(m, 0),
         derivative: DerivativeState {
-            previous_error: vector(m, 2),
+            previous_error: given(m, 2),
         },
-        shaped_velocity_mps: vector(m, 5),
-        commanded_velocity_mps: Vec2 { x: m[8], y: m[9] },
+        shaped_velocity_mps: given(m, 5),
+        commanded_velocity_mps: Vec2::read(m, 8),
     }
 }
 
 fn lateral_call(controller: LateralController, w: &[f32; 20]) -> LateralControl
     ensures { result ≡ calls.lateral_call controller w.now }
 {
-    let config = LateralControllerConfig {
-        position_p: w[0],
-        velocity: Gains {
-            p: w[1],
-            i: w[2],
-            d: w[3],
-        },
-        max_integral: w[4],
-        max_accel_mps2: w[5],
-        brake_mps2: w[6],
-        braking_share: w[7],
-    };
+    let config = LateralControllerConfig::from(<[f32; 8]>::read(w, 0));
     let target = LateralTarget {
-        position_m: Vec2 { x: w[9], y: w[10] },
-        velocity_mps: Vec2 { x: w[11], y: w[12] },
+        position_m: Vec2::read(w, 9),
+        velocity_mps: Vec2::read(w, 11),
         max_speed_mps: w[13],
     };
     let estimate = LateralEstimate {
-        position_m: Vec2 { x: w[14], y: w[15] },
-        velocity_mps: Vec2 { x: w[16], y: w[17] },
+        position_m: Vec2::read(w, 14),
+        velocity_mps: Vec2::read(w, 16),
     };
-    let limit = Vec2 { x: w[18], y: w[19] };
-    controller.control(config, w[8], target, estimate, limit)
+    controller.control(config, w[8], target, estimate, Vec2::read(w, 18))
 }
 
 fn numbers(call: LateralControl) -> [f32; 12]

@@ -1,5 +1,8 @@
 // What the controllers share: the rate divider, the derivative's history, the gains and the checks
 // of a configuration's numbers.
+//
+// A step takes its memory by value, and gives back what is kept with what comes out, as its definition
+// does.
 #![tactic(auto)]
 
 pub mod checks;

@@ -1,5 +1,6 @@
 -- Laws of the definitions of specs/.
 pub mod Config
+pub mod Parts
 pub mod Descent
 pub mod Thrust
 pub mod Worked

@@ -6,12 +6,18 @@ use Rattle.heading.specs.Inner.{toward}
 use Rattle.heading.specs.declared.hover_wind.HoverWind.{HoverWind}
 use Rattle.heading.specs.declared.leg_heading.Goal.{Goal}
 use Rattle.heading.specs.declared.leg_heading.Turn.{Turn}
+use Rattle.copter.specs.declared.call.GuidanceCall.{GuidanceCall}
 use Rattle.copter.specs.declared.memory.CopterGuidance.{CopterGuidance}
+use Rattle.copter.specs.declared.memory.Memory.{Memory}
 use Rattle.copter.specs.declared.guide.Guided.{Guided}
 use Rattle.copter.specs.declared.guide.Steered.{Steered}
 use Rattle.copter.specs.declared.guide.Plan.{Plan}
 use Rattle.copter.specs.declared.guide.Plan.TheVariants as plans
 use Rattle.copter.specs.Guide.{wind_updated, released, fly_to}
+
+-- the craft of a call: the configuration that it flies by, and a memory
+abbrev pub craft_of : GuidanceCall → Memory → CopterGuidance
+craft_of call memory = record { config = call.config; memory = memory }
 
 -- what a piloted call answers, and the heading target that it leaves
 unfoldable pub steered : Guided → Steered

@@ -20,7 +20,21 @@ use Rattle.copter.specs.declared.config.CopterGuidanceConfig.{CopterGuidanceConf
 use Rattle.copter.specs.declared.memory.LateralMemory.{LateralMemory}
 use Rattle.copter.specs.declared.tilt.Course.{Course}
 use Rattle.wind.specs.declared.estimate.WindEstimate.{WindEstimate}
+use Rattle.copter.specs.declared.tilt.Rotation.{Rotation}
 use Rattle.copter.specs.declared.tilt.Tilted.{Tilted}
+
+-- ---- north and east, and the body's axes
+
+abbrev pub rotation : Float → Rotation
+rotation heading = record { sin = sinf heading; cos = cosf heading }
+
+-- from north and east to ahead and right of a heading
+abbrev pub into_body : Rotation → Vec2 → Vec2
+into_body r v = record { x = v.x ⊗ r.cos ⊕ v.y ⊗ r.sin; y = neg v.x ⊗ r.sin ⊕ v.y ⊗ r.cos }
+
+-- and back
+abbrev pub from_body : Rotation → Vec2 → Vec2
+from_body r v = record { x = v.x ⊗ r.cos ⊖ v.y ⊗ r.sin; y = v.x ⊗ r.sin ⊕ v.y ⊗ r.cos }
 
 -- ---- an acceleration to a tilt
 

@@ -16,6 +16,7 @@ pub struct WaypointCommand {
     pub position_m: Vec2,
     pub velocity_mps: Option<Vec2>,
     pub altitude_m: f32,
+    // A number as in a record, where one that is not positive is no cap.
     pub cruise_speed_mps: f32,
     pub heading_rad: Option<f32>,
 }
@@ -75,7 +76,7 @@ pub enum Setpoint {
 }
 
 // What a call clipped, and whether the throttle is idle.
-#[derive(Clone, Copy)]
+#[derive(Clone, Copy, Default)]
 pub struct Flags {
     pub tilt: bool,
     pub thrust: bool,

@@ -1,10 +1,9 @@
-// The configuration: its fields in document 01's order, the rule and the default of each.
-ghost use Rattle.std.specs.Prelude.{◌≡◌};
-ghost use Rattle.copter.specs.Config.{keeps, lowest_broken};
-ghost use Rattle.copter.specs.Config.{altitude_of, lateral_of, heading_of, guidance_of, thrust_of, wind_of, config_of, default_config};
+// The configuration: its fields in document 01's order, the rule and the default of each. Document 01's
+// fields are numbers, and 0 where a term is off, so none is an `Option`.
+ghost use Rattle.std.specs.Prelude.{◌≡◌, ◌+◌, ◌≤◌, take, drop};
+ghost use Rattle.copter.specs.Config.{keeps, field_count, lowest_broken, guidance_of, thrust_of, config_of, default_config};
 
 use altitude::AltitudeControllerConfig;
-use controllers::Gains;
 use controllers::checks::{above, check_limit, check_positive, check_tilt, check_unit_interval};
 use heading::HeadingConfig;
 use lateral::LateralControllerConfig;
@@ -71,7 +70,7 @@ pub enum Rule {
 // How many fields a configuration has. Field n stands at n - 1 in a list of them.
 pub const FIELDS: usize = 50;
 
-// What a field takes, and its default in the Rust.
+// What a field takes, and its default in the Rust. Names for the two would be said again in 50 rows.
 #[derive(Clone, Copy)]
 struct Field(Rule, f32);
 
@@ -159,60 +158,23 @@ pub fn lowest_broken(fields: &[f32; FIELDS]) -> Option<u8>
         .map(|at| at as u8 + 1)
 }
 
-// The parts of a configuration. Those whose types are of other crates are functions, since an impl of
-// `From` belongs to the crate of its type.
-fn altitude_of(fields: &[f32; FIELDS]) -> AltitudeControllerConfig
-    ensures { result ≡ altitude_of fields.now }
+// N fields from a place on, which stand together in a part of the configuration. control_c has the same for
+// C's arrays; an exported one would ask its caller for the bounds.
+fn part<const N: usize>(fields: &[f32; FIELDS], from: usize) -> [f32; N]
+    requires { from + N ≤ field_count }
+    ensures { result ≡ take N (drop from fields.now) }
 {
-    AltitudeControllerConfig {
-        gains: Gains {
-            p: fields[0],
-            i: fields[1],
-            d: fields[2],
-        },
-        max_integral: fields[3],
-        hover_thrust: fields[4],
-        integration_band_m: fields[5],
-    }
+    let mut part = [0.0; N];
+    part.copy_from_slice(&fields[from..from + N]);
+    part
 }
 
-fn lateral_of(fields: &[f32; FIELDS]) -> LateralControllerConfig
-    ensures { result ≡ lateral_of fields.now }
-{
-    LateralControllerConfig {
-        position_p: fields[6],
-        velocity: Gains {
-            p: fields[7],
-            i: fields[8],
-            d: fields[9],
-        },
-        max_integral: fields[10],
-        max_accel_mps2: fields[11],
-        brake_mps2: fields[12],
-        braking_share: fields[13],
-    }
-}
-
-fn heading_of(fields: &[f32; FIELDS]) -> HeadingConfig
-    ensures { result ≡ heading_of fields.now }
-{
-    HeadingConfig {
-        waypoint_yaw_radps: fields[25],
-        heading_rate_radps: fields[26],
-        waypoint_yaw_min_leg_m: fields[27],
-        heading_yield_rad: fields[28],
-        heading_yield_rate_radps: fields[29],
-        heading_yield_s: fields[30],
-        wind_heading_min_mps: fields[31],
-        wind_heading_from_wind_rad: fields[32],
-        wind_heading_max_sd_rad: fields[33],
-        wind_heading_deadband_rad: fields[34],
-    }
-}
-
+// Its own fields stand on both sides of the heading's, so it reads them by number. Here and below `ensures`
+// says again what `from_gives` or `is_default` says, for who reads the function.
 impl From<&[f32; FIELDS]> for GuidanceConfig {
     ghost from_gives = { λ fields config. config ≡ guidance_of fields.now };
 
+    #[tactic(auto, using(crate::proofs::Laws::Parts::heading_part))]
     fn from(fields: &[f32; FIELDS]) -> GuidanceConfig
         ensures { result ≡ guidance_of fields.now }
     {
@@ -230,13 +192,14 @@ impl From<&[f32; FIELDS]> for GuidanceConfig {
             climb_decel_mps2: fields[22],
             altitude_leash_m: fields[23],
             land_speed_mps: fields[24],
-            heading: heading_of(fields),
+            heading: HeadingConfig::from(part::<10>(fields, 25)),
             airborne_height_m: fields[35],
             feedforward_hold_band_mps: fields[36],
         }
     }
 }
 
+// From all fields, by number: this conversion is public, and one from the four alone would stand beside it.
 impl From<&[f32; FIELDS]> for ThrustLimits {
     ghost from_gives = { λ fields limits. limits ≡ thrust_of fields.now };
 
@@ -252,43 +215,24 @@ impl From<&[f32; FIELDS]> for ThrustLimits {
     }
 }
 
-fn wind_of(fields: &[f32; FIELDS]) -> WindConfig
-    ensures { result ≡ wind_of fields.now }
-{
-    WindConfig {
-        ballistic_kgpm2: Vec2 {
-            x: fields[41],
-            y: fields[42],
-        },
-        momentum_per_s: Vec2 {
-            x: fields[43],
-            y: fields[44],
-        },
-        force_noise_mps2: fields[45],
-        process_noise_mps_per_rt_s: fields[46],
-        initial_sd_mps: fields[47],
-        gate_sigma: fields[48],
-        max_axial_speed_mps: fields[49],
-    }
-}
-
 impl From<&[f32; FIELDS]> for CopterGuidanceConfig {
     ghost from_gives = { λ fields config. config ≡ config_of fields.now };
 
-    #[tactic(auto, unfolding(crate::specs::Config::config_of))]
+    #[tactic(auto, using(crate::proofs::Laws::Parts::altitude_part, crate::proofs::Laws::Parts::lateral_part, crate::proofs::Laws::Parts::wind_part), unfolding(crate::specs::Config::config_of))]
     fn from(fields: &[f32; FIELDS]) -> CopterGuidanceConfig
         ensures { result ≡ config_of fields.now }
     {
         CopterGuidanceConfig {
-            altitude: altitude_of(fields),
-            lateral: lateral_of(fields),
+            altitude: AltitudeControllerConfig::from(part::<6>(fields, 0)),
+            lateral: LateralControllerConfig::from(part::<8>(fields, 6)),
             guidance: GuidanceConfig::from(fields),
             thrust: ThrustLimits::from(fields),
-            wind: wind_of(fields),
+            wind: WindConfig::from(part::<9>(fields, 41)),
         }
     }
 }
 
+// By hand, since its numbers are the table's and no zeros.
 impl Default for CopterGuidanceConfig {
     ghost is_default = { λ config. config ≡ default_config };
 

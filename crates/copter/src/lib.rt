@@ -2,6 +2,7 @@
 // value and comes back by value.
 #![tactic(auto)]
 
+pub mod call;
 pub mod commands;
 pub mod config;
 pub mod descent;

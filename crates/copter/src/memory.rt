@@ -20,7 +20,8 @@ pub struct VerticalMemory {
 }
 
 // The lateral loop: its controller, its pacing, the stored tilt with whether it was capped, and the
-// acceleration requested before the cap. The tilt stands in both cases.
+// acceleration requested before the cap. The tilt and the request stand in both cases: the memory that is
+// compared with the Rust's has the request whether the tilt was capped or not.
 #[derive(Clone, Copy, Default)]
 pub struct LateralMemory {
     pub controller: LateralController,
@@ -47,6 +48,7 @@ pub struct CopterGuidance {
 }
 
 impl VerticalMemory {
+    // Nothing here calls it: it was public before `Default` said the same.
     #[tactic(auto, unfolding(crate::specs::Memory::fresh_vertical, altitude::specs::Altitude::fresh))]
     pub fn new() -> VerticalMemory
         ensures { result ≡ fresh_vertical }
@@ -77,16 +79,10 @@ impl LateralMemory {
 }
 
 impl Memory {
-    #[tactic(auto, unfolding(crate::specs::Memory::fresh))]
+    #[tactic(auto, unfolding(crate::specs::Memory::fresh, crate::specs::Memory::fresh_vertical, crate::specs::Memory::fresh_lateral, altitude::specs::Altitude::fresh, lateral::specs::Lateral::fresh, heading::specs::LegHeading::fresh, heading::specs::WindHeading::fresh, heading::specs::HoverWind::fresh, wind::specs::Wind::fresh, wind::specs::Wind::empty))]
     pub fn new() -> Memory
         ensures { result ≡ fresh }
     {
-        Memory {
-            vertical: VerticalMemory::new(),
-            lateral: LateralMemory::new(),
-            heading_rad: 0.0,
-            leg_heading: LegHeading::new(),
-            wind: HoverWind::new(),
-        }
+        Memory::default()
     }
 }

@@ -13,6 +13,7 @@ pub struct Thrust {
 }
 
 // A piloted thrust, whether something changed it, and whether the throttle is idle; it stands in each case.
+// It has a `Thrust`'s fields as its own, as the definitions name them.
 #[derive(Clone, Copy)]
 pub struct PilotedThrust {
     pub value: f32,
@@ -31,7 +32,9 @@ pub fn clip_thrust(thrust: f32) -> Thrust
     }
 }
 
-// The stick's throttle boosted for the tilt, up to the ceiling unless the stick itself is above it.
+// The stick's throttle boosted for the tilt, up to the ceiling unless the stick itself is above it. It has
+// the form of `floor_thrust`, whose bound is below where this one's is above: one function for both would be
+// passed the comparison.
 #[tactic(auto, unfolding(crate::specs::Thrust::boost))]
 pub fn boost(throttle: f32, attitude: Quaternion, max_boost_thrust: f32) -> Thrust
     ensures { result ≡ boost throttle attitude max_boost_thrust }
@@ -72,18 +75,19 @@ pub fn floor_thrust(thrust: f32, min_thrust: f32) -> Thrust
 fn guarded(thrust: Thrust, climb_mps: f32, limits: ThrustLimits) -> Thrust
     ensures { result ≡ guarded thrust climb_mps limits }
 {
-    let Some(value) = math::guard_sink(
+    math::guard_sink(
         thrust.value,
         climb_mps,
         limits.sink_limit_mps,
         limits.sink_gain,
-    ) else {
-        return thrust;
-    };
-    Thrust {
-        value,
-        saturated: true,
-    }
+    )
+    .map_or(
+        thrust,
+        |value| Thrust {
+            value,
+            saturated: true,
+        },
+    )
 }
 
 // The raw throttle against field 19 decides whether it is idle, and a NaN is. An idle throttle passes

@@ -1,10 +1,11 @@
 // The tilt toward a waypoint: the lateral loop's acceleration, the drag fed forward, and the cap.
 ghost use Rattle.std.specs.Prelude.{◌≡◌};
-ghost use Rattle.copter.specs.Tilt.{tilt_for_acceleration, drag_feedforward, velocity_or_zero, wind_or_zero, lateral_target, lateral_estimate, navigable, held, levelled, limit, run, tilt_toward};
+ghost use Rattle.copter.specs.Tilt.{rotation, into_body, from_body, tilt_for_acceleration, drag_feedforward, wind_or_zero, lateral_target, lateral_estimate, navigable, held, levelled, limit, run, tilt_toward};
 
-use crate::config::CopterGuidanceConfig;
+use crate::call::GuidanceCall;
 use crate::memory::LateralMemory;
 use controllers::rate_divider::RateDivider;
+use floats::compare::is_finite;
 use lateral::{LateralEstimate, LateralTarget};
 use math::vectors::Vec2;
 use wind::drag::WindConfig;
@@ -26,6 +27,43 @@ pub struct Tilted {
     pub tilt_rad: Vec2,
 }
 
+// A heading's sine and cosine, which turn a vector from north and east into the body's axes, ahead and
+// right, and back.
+#[derive(Clone, Copy)]
+struct Rotation {
+    sin: f32,
+    cos: f32,
+}
+
+impl Rotation {
+    fn to(heading_rad: f32) -> Rotation
+        ensures { result ≡ rotation heading_rad }
+    {
+        Rotation {
+            sin: floats::sin_cos::sinf(heading_rad),
+            cos: floats::sin_cos::cosf(heading_rad),
+        }
+    }
+
+    fn into_body(self, v: Vec2) -> Vec2
+        ensures { result ≡ into_body self v }
+    {
+        Vec2 {
+            x: v.x * self.cos + v.y * self.sin,
+            y: -v.x * self.sin + v.y * self.cos,
+        }
+    }
+
+    fn from_body(self, v: Vec2) -> Vec2
+        ensures { result ≡ from_body self v }
+    {
+        Vec2 {
+            x: v.x * self.cos - v.y * self.sin,
+            y: v.x * self.sin + v.y * self.cos,
+        }
+    }
+}
+
 // Roll and pitch, at a heading, that point the thrust to give an acceleration north and east: a tilt
 // of atan(|a| / g) toward it. Level where a number is not finite.
 #[tactic(auto, unfolding(crate::specs::Tilt::tilt_for_acceleration))]
@@ -33,24 +71,16 @@ pub fn tilt_for_acceleration(accel_mps2: Vec2, heading_rad: f32) -> Vec2
     ensures { result ≡ tilt_for_acceleration accel_mps2 heading_rad }
 {
     let norm = accel_mps2.norm();
-    if floats::compare::is_finite(norm) {
-        if norm == 0.0 {
-            return Vec2::zeros();
-        }
-        if floats::compare::is_finite(heading_rad) {
-            let tilt_rad = floats::atan::atanf(norm / math::GRAVITY);
-            let sin = floats::sin_cos::sinf(heading_rad);
-            let cos = floats::sin_cos::cosf(heading_rad);
-            let ahead = accel_mps2.x * cos + accel_mps2.y * sin;
-            let right = -accel_mps2.x * sin + accel_mps2.y * cos;
-            let toward = Vec2 {
-                x: right,
-                y: -ahead,
-            };
-            return toward * (tilt_rad / norm);
-        }
+    if !is_finite(norm) || norm == 0.0 || !is_finite(heading_rad) {
+        return Vec2::zeros();
     }
-    Vec2::zeros()
+    let tilt_rad = floats::atan::atanf(norm / math::GRAVITY);
+    let body = Rotation::to(heading_rad).into_body(accel_mps2);
+    let toward = Vec2 {
+        x: body.y,
+        y: -body.x,
+    };
+    toward * (tilt_rad / norm)
 }
 
 // The acceleration that holds off the drag of the commanded velocity past the hold band, through air
@@ -65,64 +95,43 @@ pub fn drag_feedforward_mps2(
 ) -> Vec2
     ensures { result ≡ drag_feedforward config hold_band_mps commanded_mps wind_mps heading_rad }
 {
-    let leg = math::past(commanded_mps, hold_band_mps);
-    let air = leg - wind_mps;
-    let sin = floats::sin_cos::sinf(heading_rad);
-    let cos = floats::sin_cos::cosf(heading_rad);
-    let body = Vec2 {
-        x: air.x * cos + air.y * sin,
-        y: -air.x * sin + air.y * cos,
-    };
-    let drag = config.drag_mps2(body);
-    let push_x = -drag.x;
-    let push_y = -drag.y;
-    Vec2 {
-        x: push_x * cos - push_y * sin,
-        y: push_x * sin + push_y * cos,
-    }
+    let past_band_mps = math::past(commanded_mps, hold_band_mps);
+    let rotation = Rotation::to(heading_rad);
+    let drag = config.drag_mps2(rotation.into_body(past_band_mps - wind_mps));
+    rotation.from_body(Vec2 {
+        x: -drag.x,
+        y: -drag.y,
+    })
 }
 
-#[tactic(auto, unfolding(crate::specs::Tilt::velocity_or_zero))]
-fn velocity_or_zero(velocity_mps: Option<Vec2>) -> Vec2
-    ensures { result ≡ velocity_or_zero velocity_mps }
-{
-    velocity_mps.unwrap_or(Vec2::zeros())
+impl From<Course> for LateralTarget {
+    ghost from_gives = { λ course target. target ≡ lateral_target course };
+
+    #[tactic(auto, unfolding(crate::specs::Tilt::lateral_target, crate::specs::Tilt::velocity_or_zero))]
+    fn from(course: Course) -> LateralTarget {
+        LateralTarget {
+            position_m: course.position_m,
+            velocity_mps: course.velocity_mps.unwrap_or_default(),
+            max_speed_mps: course.cruise_speed_mps,
+        }
+    }
 }
 
 #[tactic(auto, unfolding(crate::specs::Tilt::wind_or_zero))]
 fn wind_or_zero(estimate: Option<WindEstimate>) -> Vec2
     ensures { result ≡ wind_or_zero estimate }
 {
-    let Some(present) = estimate else {
-        return Vec2::zeros();
-    };
-    present.velocity_mps
+    estimate.map_or(Vec2::zeros(), |present| present.velocity_mps)
 }
 
-#[tactic(auto, unfolding(crate::specs::Tilt::lateral_target))]
-fn lateral_target(course: Course) -> LateralTarget
-    ensures { result ≡ lateral_target course }
-{
-    LateralTarget {
-        position_m: course.position_m,
-        velocity_mps: velocity_or_zero(course.velocity_mps),
-        max_speed_mps: course.cruise_speed_mps,
-    }
-}
-
+// A function, since an impl of `From` belongs to the crate of one of its types.
 #[tactic(auto, unfolding(crate::specs::Tilt::lateral_estimate))]
 fn lateral_estimate(state: VehicleState) -> LateralEstimate
     ensures { result ≡ lateral_estimate state }
 {
     LateralEstimate {
-        position_m: Vec2 {
-            x: state.position_m.x,
-            y: state.position_m.y,
-        },
-        velocity_mps: Vec2 {
-            x: state.velocity_mps.x,
-            y: state.velocity_mps.y,
-        },
+        position_m: state.position_m.horizontal(),
+        velocity_mps: state.velocity_mps.horizontal(),
     }
 }
 
@@ -134,7 +143,7 @@ fn navigable(target: LateralTarget, estimate: LateralEstimate, heading_rad: f32)
     math::all_finite(target.position_m - estimate.position_m)
         && math::all_finite(target.velocity_mps)
         && math::all_finite(estimate.velocity_mps)
-        && floats::compare::is_finite(heading_rad)
+        && is_finite(heading_rad)
 }
 
 impl LateralMemory {
@@ -143,32 +152,24 @@ impl LateralMemory {
     #[tactic(auto, unfolding(crate::specs::Tilt::tilt_toward, crate::specs::Tilt::tilted_when))]
     pub fn tilt_toward(
         self,
-        config: CopterGuidanceConfig,
-        dt: f32,
+        call: GuidanceCall,
         course: Course,
         estimate: Option<WindEstimate>,
-        state: VehicleState,
     ) -> Tilted
-        ensures { result ≡ tilt_toward self config dt course estimate state }
+        ensures { result ≡ tilt_toward self call.config call.dt course estimate call.state }
     {
-        let paced = self.rate.due(dt, config.guidance.navigation_period_s);
-        let rate = paced.divider;
+        let paced = self
+            .rate
+            .due(call.dt, call.config.guidance.navigation_period_s);
         let Some(step) = paced.due else {
-            return self.held(rate);
+            return self.held(paced.divider);
         };
-        let target = lateral_target(course);
-        let own = lateral_estimate(state);
-        if navigable(target, own, state.heading_rad) {
-            return self.run(
-                config,
-                step,
-                target,
-                own,
-                wind_or_zero(estimate),
-                state.heading_rad,
-            );
+        let target = LateralTarget::from(course);
+        let own = lateral_estimate(call.state);
+        if navigable(target, own, call.state.heading_rad) {
+            return self.run(call, step, target, own, wind_or_zero(estimate));
         }
-        self.levelled(rate)
+        self.levelled(paced.divider)
     }
 
     // Not due: the stored tilt, and the divider alone goes on.
@@ -187,14 +188,13 @@ impl LateralMemory {
     fn levelled(self, rate: RateDivider) -> Tilted
         ensures { result ≡ levelled self rate }
     {
-        let level = Vec2::zeros();
         Tilted {
             memory: LateralMemory {
                 rate,
                 tilt_capped: false,
                 ..self
             },
-            tilt_rad: level,
+            tilt_rad: Vec2::zeros(),
         }
     }
 
@@ -213,35 +213,33 @@ impl LateralMemory {
     #[tactic(auto, unfolding(crate::specs::Tilt::run, math::specs::Inner::exceeds))]
     fn run(
         self,
-        config: CopterGuidanceConfig,
+        call: GuidanceCall,
         step: f32,
         target: LateralTarget,
         own: LateralEstimate,
         wind_mps: Vec2,
-        heading_rad: f32,
     ) -> Tilted
-        ensures { result ≡ run self config step target own wind_mps heading_rad }
+        ensures { result ≡ run self call.config step target own wind_mps call.state.heading_rad }
     {
         let control = self
             .controller
-            .control(config.lateral, step, target, own, self.limit_mps2());
-        let controller = control.controller;
+            .control(call.config.lateral, step, target, own, self.limit_mps2());
         let feedforward_mps2 = drag_feedforward_mps2(
-            config.wind,
-            config.guidance.feedforward_hold_band_mps,
-            controller.commanded_velocity_mps,
+            call.config.wind,
+            call.config.guidance.feedforward_hold_band_mps,
+            control.controller.commanded_velocity_mps,
             wind_mps,
-            heading_rad,
+            call.state.heading_rad,
         );
         let accel_mps2 = control.accel_mps2 + feedforward_mps2;
-        let requested = tilt_for_acceleration(accel_mps2, heading_rad);
-        let tilt_rad = math::cap_magnitude(requested, config.guidance.max_tilt_rad);
+        let requested = tilt_for_acceleration(accel_mps2, call.state.heading_rad);
+        let tilt_rad = math::cap_magnitude(requested, call.config.guidance.max_tilt_rad);
         Tilted {
             memory: LateralMemory {
-                controller,
+                controller: control.controller,
                 rate: RateDivider::ran(),
                 tilt_rad,
-                tilt_capped: math::exceeds(requested, config.guidance.max_tilt_rad),
+                tilt_capped: math::exceeds(requested, call.config.guidance.max_tilt_rad),
                 requested_accel_mps2: accel_mps2,
             },
             tilt_rad,

@@ -22,6 +22,5 @@ pub mod MinMax
 pub mod Narrow
 pub mod Sqrt
 pub mod Align
-pub mod Ranges
 pub mod SinCos
 pub mod Atan

@@ -1,7 +1,12 @@
 -- The size and the sign of a float, as Rust's `f32` has them. A NaN is told by `lib.Ieee`'s `is_nan`, and what is neither a NaN nor an infinity by
 -- `lib.Ieee.Scale`'s `finite`. Assumes nothing.
-use Rattle.std.specs.Prelude.{Bool, false, pos}
+use Rattle.std.specs.Prelude.{Bool, false, cond, pos, None, Option, Some}
 use lib.Ieee.{Float, nan, inf, fin}
+use lib.Ieee.Scale.{finite}
+
+-- x where it is finite
+unfoldable pub finite_or_none : Float → Option Float
+finite_or_none x = cond (finite x) (Some x) None
 
 -- The size: x without its sign.
 unfoldable pub abs : Float → Float

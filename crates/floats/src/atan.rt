@@ -13,6 +13,9 @@ use std::f32::consts::{FRAC_PI_2, FRAC_PI_4, PI};
 // What π has beyond its `f32`.
 const PI_LOW: f32 = -0.00000008742278;
 
+// The `f32` below π/2. `FRAC_PI_2` is the one above, which is nearer.
+const BELOW_PI_2: f32 = 1.5707963;
+
 // 3π/4.
 const THREE_PI_4: f32 = 2.3561945;
 
@@ -26,6 +29,7 @@ const HUGE: u32 = 0x4C80_0000;
 const FAR: u32 = 0x0D00_0000;
 
 // x - atan x for x below 7/16 in size.
+#[tactic(auto, unfolding(crate::specs::Atan::atanf_rest), using(crate::proofs::Laws::Fields::negated))]
 fn atanf_rest(x: f32) -> f32
     ensures { result ≡ atanf_rest x }
 {
@@ -45,6 +49,7 @@ fn atanf_from(high: f32, low: f32, t: f32) -> f32
 }
 
 // The arctangent of x from 7/16 on, by its distance from atan 0.5, atan 1, atan 1.5 or π/2.
+#[tactic(auto, unfolding(crate::specs::Atan::atanf_large))]
 fn atanf_large(x: f32) -> f32
     ensures { result ≡ atanf_large x }
 {
@@ -57,11 +62,12 @@ fn atanf_large(x: f32) -> f32
     if x < 2.4375 {
         return atanf_from(0.9827937, 0.000000034473217, (x - 1.5) / (1.0 + 1.5 * x));
     }
-    atanf_from(1.5707963, 0.000000075497894, -1.0 / x)
+    atanf_from(BELOW_PI_2, 0.000000075497894, -1.0 / x)
 }
 
 // The arctangent of x, in radians, from -π/2 to π/2. From 2^26 on in size it has that of the `f32` below π/2,
 // as in libm. A NaN gives a NaN, and a zero itself.
+#[tactic(auto, unfolding(crate::specs::Atan::atanf), using(crate::proofs::Laws::Sizes::by_pattern, crate::proofs::Laws::Atan::atanf_nan))]
 pub fn atanf(x: f32) -> f32
     ensures { result ≡ atanf x }
 {
@@ -76,12 +82,13 @@ pub fn atanf(x: f32) -> f32
         return x - atanf_rest(x);
     }
     if HUGE <= size {
-        return compare::with_sign(x < 0.0, 1.5707963);
+        return compare::with_sign(x < 0.0, BELOW_PI_2);
     }
     compare::with_sign(x < 0.0, atanf_large(compare::abs(x)))
 }
 
 // Whether y is more than 2^26 times x in size, as the patterns tell: libm's test, and not msun's.
+#[tactic(auto, using(crate::proofs::Laws::Sign::size_below_top))]
 fn far_above(y: f32, x: f32) -> bool
     ensures { result ≡ far_above y x }
 {
@@ -89,6 +96,7 @@ fn far_above(y: f32, x: f32) -> bool
 }
 
 // The angle of (x, y) where x is infinite.
+#[tactic(auto, unfolding(crate::specs::Atan::atan2f_infinite), using(crate::proofs::Laws::Sizes::by_pattern))]
 fn atan2f_infinite(y: f32, x: f32) -> f32
     ensures { result ≡ atan2f_infinite y x }
 {
@@ -131,6 +139,7 @@ fn atan2f_finite(y: f32, x: f32) -> f32
 }
 
 // The angle of (x, y), neither of which is zero.
+#[tactic(auto, unfolding(crate::specs::Atan::atan2f_nonzero), using(crate::proofs::Laws::Sizes::by_pattern))]
 fn atan2f_nonzero(y: f32, x: f32) -> f32
     ensures { result ≡ atan2f_nonzero y x }
 {
@@ -149,7 +158,7 @@ fn atan2f_nonzero(y: f32, x: f32) -> f32
 
 // The angle of (x, y), in radians, from -π to π. Zeros and infinities count with their signs, and a
 // NaN gives a NaN.
-#[tactic(auto, unfolding(crate::specs::Atan::atan2f))]
+#[tactic(auto, unfolding(crate::specs::Atan::atan2f), using(crate::proofs::Laws::Special::is_nan_lem))]
 pub fn atan2f(y: f32, x: f32) -> f32
     ensures { result ≡ atan2f y x }
 {

@@ -1,7 +1,7 @@
 // A float from and to its bit pattern, NaN patterns included.
-ghost use Rattle.std.specs.Prelude.{◌≡◌, ◌<◌, from_bits, to_bits};
+ghost use Rattle.std.specs.Prelude.{◌≡◌, from_bits, to_bits};
 ghost use Rattle.std.specs.Float.{binary32};
-ghost use Rattle.floats.specs.Bits.{le_word, le_bytes};
+ghost use Rattle.floats.specs.Bits.{le_bytes};
 ghost use Rattle.floats.specs.Compare.{abs};
 
 // The weight of the sign's bit in a pattern of `f32`, 2^31.
@@ -31,20 +31,14 @@ pub fn to_bits(x: f32) -> u32
 }
 
 // The pattern of a float's size, which is the float's without the highest bit. A NaN gives 7FC00000.
+#[tactic(auto, using(crate::proofs::Laws::Sizes::size_of_bits))]
 pub fn size_bits(x: f32) -> u32
     ensures { result ≡ to_bits binary32 (abs x) }
 {
     to_bits(x) % SIGN
 }
 
-// The word of four bytes, the low byte first.
-pub fn le_word(b0: u8, b1: u8, b2: u8, b3: u8) -> u32
-    ensures { result ≡ le_word b0 b1 b2 b3 }
-{
-    u32::from_le_bytes([b0, b1, b2, b3])
-}
-
-// The four bytes of a float, the low byte first.
+// The four bytes of a float, the low byte first. std's asks for no NaN.
 pub fn to_le_bytes(x: f32) -> [u8; 4]
     ensures { result ≡ le_bytes (to_bits binary32 x) }
 {

@@ -1,5 +1,6 @@
 // min, max and clamp as Rust's `f32` has them. std's leave open which of two equal zeros comes out, and its
-// `clamp` asks that the bounds are in order.
+// `clamp` asks that the bounds are in order. `min` and `max` differ by one comparison in a line: one
+// function that is passed the comparison would make both longer.
 ghost use Rattle.std.specs.Prelude.{◌≡◌};
 ghost use Rattle.floats.specs.MinMax.{min, max, clamp};
 
@@ -25,12 +26,6 @@ pub fn max(x: f32, y: f32) -> f32
 pub fn clamp(x: f32, low: f32, high: f32) -> f32
     ensures { result ≡ clamp x low high }
 {
-    let mut y = x;
-    if y < low {
-        y = low;
-    }
-    if high < y {
-        y = high;
-    }
-    y
+    let y = if x < low { low } else { x };
+    if high < y { high } else { y }
 }

@@ -38,6 +38,7 @@ const INFINITE: u64 = bits::INFINITE as u64;
 // In the normal range the pattern is rounded as a number: the sum reaches the next step where what is
 // dropped is above half of one, or is half of one and the kept digits are odd. A carry out of the
 // digits goes on into the exponent's field. What is smaller is rounded by an addition. A NaN stays one.
+// (std's `nearest_f64_to_f32_with_nan` takes the number apart and rounds it as one of 128 bits.)
 pub fn narrow(x: f64) -> f32
     ensures { result ≡ convert binary32 x }
 {

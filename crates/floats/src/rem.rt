@@ -1,5 +1,5 @@
 // The remainder of a division, without the C library's fmodf.
-ghost use Rattle.std.specs.Prelude.{◌≡◌, ◌+◌, ◌-◌, ◌*◌, ◌/◌, ◌%◌, ◌^◌, ◌<◌, ◌≤◌, min, false};
+ghost use Rattle.std.specs.Prelude.{◌≡◌, ◌+◌, ◌-◌, ◌*◌, ◌/◌, ◌%◌, ◌^◌, ◌<◌, min, false};
 ghost use Rattle.std.specs.Float.{binary32};
 ghost use Rattle.std.specs.Float.Ieee.{rem};
 ghost use Rattle.std.specs.Float.Ieee.Exact.{HasValue};
@@ -20,13 +20,11 @@ fn digits(size: u32) -> u32
 fn place(size: u32) -> u32
     ensures { result ≡ size / 8388608 - 1 }
 {
-    if size < LEAD {
-        return 0;
-    }
-    size / LEAD - 1
+    (size / LEAD).saturating_sub(1)
 }
 
 // m * 2^k modulo n.
+#[tactic(auto, using(crate::proofs::Laws::Digits::doubled_mod))]
 fn shifted_mod(m: u32, n: u32, k: u32) -> u32
     requires above_zero { 0 < n }
     requires digits { n < 2 ^ 24 }

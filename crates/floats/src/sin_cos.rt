@@ -2,11 +2,11 @@
 // e_rem_pio2f.c): worked out in `f64`, and rounded to `f32` once.
 //
 // The ranges are told by the pattern of x's size, as in the source.
-ghost use Rattle.std.specs.Prelude.{◌≡◌, ◌<◌, if◌then◌else◌};
+ghost use Rattle.std.specs.Prelude.{◌≡◌, ◌+◌, ◌%◌, ◌<◌, if◌then◌else◌};
 ghost use Rattle.std.specs.Float.{binary32};
 ghost use Rattle.floats.specs.Narrow.{convert};
 ghost use Rattle.floats.specs.Ops.{◌⊞◌, ◌⊟◌};
-ghost use Rattle.floats.specs.SinCos.{k_sinf, k_cosf, quadrant, rem_pio2f, negative, by_quadrant, sinf_near, sinf_far, sinf_reduced, sinf, cosf_near, cosf_far, cosf_reduced, cosf};
+ghost use Rattle.floats.specs.SinCos.{k_sinf, k_cosf, quadrant, rem_pio2f, negative, by_quadrant, sinf_near, sinf_far, sinf, cosf_near, cosf_far, cosf};
 
 use crate::bits::TINY;
 use crate::{bits, compare, narrow};
@@ -55,6 +55,7 @@ const UPTO_7PI_4: u32 = 0x40AF_EDDF;
 const UPTO_9PI_4: u32 = 0x40E2_31D5;
 
 // The sine of x in [-π/4, π/4].
+#[tactic(auto, unfolding(crate::specs::SinCos::k_sinf), using(crate::proofs::Laws::Fields::negated))]
 fn k_sinf(x: f64) -> f32
     ensures { result ≡ k_sinf x }
 {
@@ -76,6 +77,7 @@ fn narrow_cosine(y: f64) -> f32
 }
 
 // The cosine of x in [-π/4, π/4].
+#[tactic(auto, unfolding(crate::specs::SinCos::k_cosf), using(crate::proofs::Laws::Fields::negated))]
 fn k_cosf(x: f64) -> f32
     ensures { result ≡ k_cosf x }
 {
@@ -115,7 +117,9 @@ fn nearer(x: f32, angle: f64) -> f64
     wide - angle
 }
 
-// The sine of x with a size between π/4 and 5π/4.
+// The sine of x with a size between π/4 and 5π/4. This one, `sinf_far`, `cosf_near` and `cosf_far` differ
+// in kernels, signs and angles: a form for all four would be passed all of these.
+#[tactic(auto, unfolding(crate::specs::SinCos::sinf_near), using(crate::proofs::Laws::Sizes::by_pattern))]
 fn sinf_near(x: f32) -> f32
     ensures { result ≡ sinf_near x }
 {
@@ -126,6 +130,7 @@ fn sinf_near(x: f32) -> f32
 }
 
 // The sine of x with a size between 5π/4 and 9π/4.
+#[tactic(auto, unfolding(crate::specs::SinCos::sinf_far), using(crate::proofs::Laws::Sizes::by_pattern, crate::proofs::Laws::Order::neg_neg))]
 fn sinf_far(x: f32) -> f32
     ensures { result ≡ sinf_far x }
 {
@@ -149,16 +154,18 @@ fn by_quadrant(n: u64, y: f64) -> f32
     }
 }
 
-// The sine of x of any size, by its quarter turns.
-#[tactic(auto, unfolding(crate::specs::SinCos::sinf_reduced))]
-fn sinf_reduced(x: f32) -> f32
-    ensures { result ≡ sinf_reduced x }
+// The sine of x of any size and `turns` quarter turns, by the quarter turns of both.
+fn reduced(x: f32, turns: u64) -> f32
+    requires { turns < 4 }
+    ensures { result ≡ by_quadrant ((quadrant x + turns) % 4) (rem_pio2f x) }
 {
     let wide = std::num::f32_to_f64_with_nan(x);
-    by_quadrant(quadrant(wide), rem_pio2f(wide))
+    by_quadrant((quadrant(wide) + turns) % 4, rem_pio2f(wide))
 }
 
-// The sine of x radians, up to 2^28 π/2 in size. A NaN and an infinity give a NaN, and a zero itself.
+// The sine of x radians, up to 2^28 π/2 in size. A NaN and an infinity give a NaN, and a zero itself. `cosf`
+// tests the same ranges and answers otherwise in each: a form for both would be passed five functions.
+#[tactic(auto, unfolding(crate::specs::SinCos::sinf), using(crate::proofs::Laws::Sizes::by_pattern, crate::proofs::Laws::SinCos::no_turn, crate::proofs::Laws::SinCos::sinf_nan))]
 pub fn sinf(x: f32) -> f32
     ensures { result ≡ sinf x }
 {
@@ -178,10 +185,11 @@ pub fn sinf(x: f32) -> f32
     if size <= UPTO_9PI_4 {
         return sinf_far(x);
     }
-    sinf_reduced(x)
+    reduced(x, 0)
 }
 
 // The cosine of x with a size between π/4 and 5π/4.
+#[tactic(auto, unfolding(crate::specs::SinCos::cosf_near), using(crate::proofs::Laws::Sizes::by_pattern, crate::proofs::Laws::SinCos::near_size))]
 fn cosf_near(x: f32) -> f32
     ensures { result ≡ cosf_near x }
 {
@@ -192,6 +200,7 @@ fn cosf_near(x: f32) -> f32
 }
 
 // The cosine of x with a size between 5π/4 and 9π/4.
+#[tactic(auto, unfolding(crate::specs::SinCos::cosf_far), using(crate::proofs::Laws::Sizes::by_pattern, crate::proofs::Laws::SinCos::far_size))]
 fn cosf_far(x: f32) -> f32
     ensures { result ≡ cosf_far x }
 {
@@ -201,16 +210,8 @@ fn cosf_far(x: f32) -> f32
     k_sinf(std::num::f32_to_f64_with_nan(compare::abs(x)) - PIO2_TIMES_3)
 }
 
-// The cosine of x of any size: the sine a quarter turn on.
-#[tactic(auto, unfolding(crate::specs::SinCos::cosf_reduced))]
-fn cosf_reduced(x: f32) -> f32
-    ensures { result ≡ cosf_reduced x }
-{
-    let wide = std::num::f32_to_f64_with_nan(x);
-    by_quadrant((quadrant(wide) + 1) % 4, rem_pio2f(wide))
-}
-
 // The cosine of x radians, up to 2^28 π/2 in size. A NaN and an infinity give a NaN.
+#[tactic(auto, unfolding(crate::specs::SinCos::cosf, crate::specs::SinCos::cosf_reduced), using(crate::proofs::Laws::Sizes::by_pattern, crate::proofs::Laws::SinCos::cosf_nan))]
 pub fn cosf(x: f32) -> f32
     ensures { result ≡ cosf x }
 {
@@ -230,5 +231,6 @@ pub fn cosf(x: f32) -> f32
     if size <= UPTO_9PI_4 {
         return cosf_far(x);
     }
-    cosf_reduced(x)
+    // The sine a quarter turn on.
+    reduced(x, 1)
 }

@@ -1,12 +1,18 @@
-// The square root, rounded to the nearest `f32`.
+// The square root, rounded to the nearest `f32`. std's `sqrt` is the processor's instruction, which is
+// taken at its word; this one is proved.
 ghost use Rattle.std.specs.Prelude.{◌≡◌, ◌^◌, ◌<◌, true, T, from_bits, to_bits};
 ghost use Rattle.std.specs.Float.{binary32};
 ghost use Rattle.std.specs.Float.Ieee.{le};
 ghost use Rattle.std.specs.Float.Ieee.Positive.{positive};
 ghost use Rattle.floats.specs.Sqrt.{sqrt, whole_root};
 
+use crate::bits::LEAD;
+
 // The weight of an `f64`'s leading digit, and of its exponent's field: 2^52.
-const LEAD: u64 = 4503599627370496;
+const LEAD64: u64 = 4503599627370496;
+
+// The same of an `f32`, 2^23.
+const LEAD32: u64 = LEAD as u64;
 
 // A number near √n, for an n from 2^48 to 2^50. Only its range is promised: `whole_root` mends any
 // guess, and the better the guess, the sooner.
@@ -14,7 +20,7 @@ fn guess(n: u64) -> u64
     ensures { result < 2 ^ 32 }
 {
     // n / 2^48 is from 1 to 4, and `near` is off by at most 1/190 of its root.
-    let z = ((n % LEAD) as f64) / 281474976710656.0;
+    let z = ((n % LEAD64) as f64) / 281474976710656.0;
     let near = (0.526 - 0.03954 * z) * z + 0.51856;
     // A step of Heron's method squares that share and halves it. The second one, times 2^24.
     let once = 0.5 * (near + z / near);
@@ -28,7 +34,8 @@ fn whole_root(n: u64) -> u64
     ensures { result ≡ whole_root n }
 {
     let mut r = guess(n);
-    // From the guess down and up to the root: a search by value, over no items.
+    // From the guess, which is near, down and up to the root. (std's `isqrt` halves a range 32 times:
+    // with it the root of a subnormal takes three times as long.)
     while r * r > n {
         r -= 1;
     }
@@ -54,18 +61,19 @@ fn sqrtf_by_digits(x: f32) -> f32
     }
     // As an `f64` x is normal: `digits` * 2^(`exponent` - 1075). The last 29 of the 53 digits are 0.
     let bits = f64::to_bits(x as f64);
-    let exponent = bits / LEAD;
-    let digits = bits % LEAD + LEAD;
+    let exponent = bits / LEAD64;
+    let digits = bits % LEAD64 + LEAD64;
     // x is n * 4^((`exponent` + 1) / 2 - 536), with an n from 2^48 to 2^50.
     let n = digits >> (3 + exponent % 2);
     let root = whole_root(n);
     // The root of n has 25 digits, and 24 are kept. It is never halfway, since n is even: so an odd
     // `root` is rounded up.
-    f32::from_bits((((exponent + 1) / 2 - 386) * 8388608 + (root + 1) / 2) as u32)
+    f32::from_bits((((exponent + 1) / 2 - 386) * LEAD32 + (root + 1) / 2) as u32)
 }
 
 // A number near 2^-896 * √z, for a z above zero that is a normal `f32` with the pattern `bits`. Nothing
 // is promised of it.
+#[tactic(auto, using(crate::proofs::Laws::Sqrt::Special::upto_infinity))]
 fn near(z: f64, bits: u32) -> f64 {
     // Half of a pattern has half of the exponent: y is off from 1/√z by at most 1/21 of it.
     let y = f64::from_bits(0x43e6_9000_0000_0000 - (bits as u64) * 268435456);
@@ -84,15 +92,15 @@ fn is_root(x: f32, pattern: u64) -> bool
     ensures { result ≡ true → pattern ≡ to_bits binary32 (sqrt binary32 x) }
 {
     let bits = f32::to_bits(x);
-    let exponent = bits / 8388608;
+    let exponent = bits / LEAD;
     // x is k * 4^((`exponent` + 1) / 2 - 87), with a k from 2^46 to 2^48. So its root's digits are √k
     // rounded, and its pattern is that number more than `base`.
-    let base = ((exponent + 125) / 2 * 8388608) as u64;
+    let base = ((exponent + 125) / 2 * LEAD) as u64;
     if pattern < base {
         return false;
     }
     let q = pattern - base;
-    let k = ((bits % 8388608 + 8388608) as u64) << (24 - exponent % 2);
+    let k = ((bits % LEAD + LEAD) as u64) << (24 - exponent % 2);
     if 33554432 <= q {
         return false;
     }

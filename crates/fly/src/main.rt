@@ -4,12 +4,9 @@
 
 ghost use Rattle.std.specs.Prelude.{◌≤◌, length, IfSome};
 
-use buffers::{Buffer, Program, Reading};
+use buffers::{BUFFER, Buffer, Program, Reading};
 use records::craft::Craft;
 use std::io::Write;
-
-// The bytes of a buffer of records, and of one of answers.
-const BUFFER: usize = 65536;
 
 // The craft between two reads, and the buffer of answers.
 #[derive(Drop)]
@@ -28,38 +25,37 @@ impl Flight {
         let flown = records::flight::fly(self.craft, input, last, output);
         self.craft = flown.craft;
         writer.write_all(&output[..flown.written]).ok()?;
-        if flown.ended {
-            return None;
-        }
-        Some(flown.taken)
+        (!flown.ended).then_some(flown.taken)
     }
 }
 
-// A turn flies all whole records, one buffer of answers after another. With no more to come it is the last.
+// A turn flies all whole records, one buffer of answers after another. With no more to come, and where the
+// read failed, it is the last.
 impl Program for Flight {
-    fn turn<W: Write>(&mut self, held: &[u8], ended: bool, writer: &mut W) -> Option<usize> {
+    fn turn<W: Write>(&mut self, held: &[u8], got: Option<usize>, writer: &mut W) -> Option<usize> {
+        let last = got.is_none_or(|count| count == 0);
         let mut taken = 0;
+        // Each call says how many bytes its records took, so no iterator goes over them.
         loop {
-            let some = self.fly_some(&held[taken..], ended, writer)?;
-            if some == 0 {
+            let more = self.fly_some(&held[taken..], last, writer)?;
+            if more == 0 {
                 break;
             }
-            taken += some;
+            taken += more;
         }
-        if ended {
-            return None;
-        }
-        Some(taken)
+        (!last).then_some(taken)
     }
 }
 
 fn main(rt: HostRuntime) {
-    let mut reader = rt.reader();
-    let mut writer = rt.stdout();
     let mut flight = Flight {
         craft: Craft::new(),
         output: [0; BUFFER],
     };
-    let mut input: Buffer<BUFFER> = Buffer::new();
-    input.run(&mut flight, Reading::Once, &mut reader, &mut writer);
+    Buffer::<BUFFER>::new().run(
+        &mut flight,
+        Reading::Once,
+        &mut rt.reader(),
+        &mut rt.stdout(),
+    );
 }

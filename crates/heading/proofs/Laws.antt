@@ -1,5 +1,4 @@
 -- Laws of the definitions of specs/.
-use Rattle.std.specs.Prelude.{Option}
 pub mod Equality
 pub mod HoverWind
 pub mod WindHeading

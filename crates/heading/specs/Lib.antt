@@ -1,4 +1,5 @@
 -- The definitions that the contracts cite. Assumes nothing.
+pub mod Config
 pub mod Equality
 pub mod HoverWind
 pub mod WindHeading

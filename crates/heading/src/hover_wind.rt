@@ -1,7 +1,7 @@
 // When the wind estimate updates, from guidance/copter/hover_wind.rs: airborne above the ground that it
 // was primed on. Document 01 has no pause.
 ghost use Rattle.std.specs.Prelude.{◌≡◌};
-ghost use Rattle.heading.specs.HoverWind.{fresh, airborne, latched, prime, update, estimate};
+ghost use Rattle.heading.specs.HoverWind.{fresh, airborne, prime, update, estimate};
 
 use wind::drag::WindConfig;
 use wind::estimate::WindEstimate;
@@ -25,7 +25,8 @@ impl HoverWind {
         HoverWind::default()
     }
 
-    // Feeds the state to the estimator while airborne.
+    // Feeds the state to the estimator while airborne. It is handed two parts of a call's configuration, the
+    // wind's and one height, so that they are no struct.
     #[tactic(auto, unfolding(crate::specs::HoverWind::update))]
     pub fn update(
         self,
@@ -47,7 +48,7 @@ impl HoverWind {
 
     // On the ground, which is where the craft is not airborne, remembers the altitude and forgets the
     // wind; in the air, keeps both.
-    #[tactic(auto, unfolding(crate::specs::HoverWind::prime))]
+    #[tactic(auto, unfolding(crate::specs::HoverWind::prime, crate::specs::HoverWind::latched, floats::specs::Compare::finite_or_none))]
     pub fn prime(self, airborne_height_m: f32, state: VehicleState) -> HoverWind
         ensures { result ≡ prime self airborne_height_m state }
     {
@@ -56,7 +57,7 @@ impl HoverWind {
         }
         HoverWind {
             estimator: WindEstimator::new(),
-            ground_altitude_m: latched(state.position_m.z),
+            ground_altitude_m: floats::compare::finite(state.position_m.z),
         }
     }
 
@@ -76,12 +77,4 @@ impl HoverWind {
         self.ground_altitude_m.is_some_and(|ground_m| state.position_m.z
             > ground_m + airborne_height_m)
     }
-}
-
-// An altitude as the ground's, none where it is not finite.
-#[tactic(auto, unfolding(crate::specs::HoverWind::latched))]
-fn latched(altitude_m: f32) -> Option<f32>
-    ensures { result ≡ latched altitude_m }
-{
-    floats::compare::is_finite(altitude_m).then_some(altitude_m)
 }

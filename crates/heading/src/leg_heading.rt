@@ -2,6 +2,7 @@
 // commanded, along the leg, or with a wingtip into the wind on station, and given up to the craft's own
 // heading once it is stuck off the target. A turn goes the shorter way round, and is not yet wrapped.
 ghost use Rattle.std.specs.Prelude.{◌≡◌};
+ghost use Rattle.floats.specs.Ops.{◌⊗◌};
 ghost use Rattle.heading.specs.LegHeading.{fresh, cleared, on_leg, leg_bearing, new_leg, bearing, on_station, station_turn, stuck, stuck_for, counted, yielded, turned_toward, commanded_turn, turned_along, along_leg, target, land_target};
 ghost use Rattle.heading.specs.Inner.{toward, commanded_angle, approach};
 
@@ -13,7 +14,7 @@ use wind::state::VehicleState;
 
 // A leg: the waypoint's position, and the direction to it from where the leg began; none where it was
 // no longer than the least leg then, or its length not a number.
-#[derive(Clone, Copy)]
+#[derive(Clone, Copy, Default)]
 pub struct Leg {
     pub to_m: Vec2,
     pub bearing_rad: Option<f32>,
@@ -162,15 +163,12 @@ impl LegHeading {
                 on_station: true,
             };
         };
-        let here_m = Vec2 {
-            x: call.state.position_m.x,
-            y: call.state.position_m.y,
-        };
-        let leg = self.bearing_rad(call.config, position_m, here_m);
+        let here_m = call.state.position_m.horizontal();
+        let bearing = self.bearing_rad(call.config, position_m, here_m);
         Approach {
-            memory: leg.memory,
-            bearing_rad: leg.bearing_rad,
-            on_station: on_station(leg.bearing_rad, call.config, position_m - here_m),
+            memory: bearing.memory,
+            bearing_rad: bearing.bearing_rad,
+            on_station: on_station(bearing.bearing_rad, call.config, position_m - here_m),
         }
     }
 
@@ -267,14 +265,12 @@ impl LegHeading {
 
 impl Goal {
     // The heading that is commanded, where it is finite; a land call has none.
-    #[tactic(auto, unfolding(crate::specs::Inner::commanded_angle, crate::specs::LegHeading::finite_angle))]
+    #[tactic(auto, unfolding(crate::specs::Inner::commanded_angle, crate::specs::LegHeading::finite_angle, floats::specs::Compare::finite_or_none))]
     fn commanded_rad(self) -> Option<f32>
         ensures { result ≡ commanded_angle self }
     {
         match self {
-            Goal::Waypoint(_, commanded) => {
-                commanded.filter(|heading_rad| floats::compare::is_finite(*heading_rad))
-            }
+            Goal::Waypoint(_, commanded) => commanded.and_then(floats::compare::finite),
             Goal::Land => None,
         }
     }
@@ -285,11 +281,17 @@ impl HeadingCall {
     fn turned_to(self, to_rad: f32) -> f32
         ensures { result ≡ commanded_turn self.dt self.config self.target_rad to_rad }
     {
-        turned_toward(
-            self.target_rad,
-            to_rad,
-            self.config.heading_rate_radps * self.dt,
-        )
+        self.turned(to_rad, self.config.heading_rate_radps)
+    }
+
+    // The target turned to a heading, the shorter way round and no faster than a rate: not at all where that
+    // is negative or a NaN.
+    #[tactic(auto, unfolding(crate::specs::LegHeading::turned_toward))]
+    fn turned(self, to_rad: f32, rate_radps: f32) -> f32
+        ensures { result ≡ turned_toward self.target_rad to_rad (rate_radps ⊗ self.dt) }
+    {
+        let error_rad = math::wrap_angle(to_rad - self.target_rad);
+        self.target_rad + math::clamp_symmetric(error_rad, rate_radps * self.dt)
     }
 
     // The target turned along a leg with a direction, with a positive yaw rate.
@@ -297,13 +299,12 @@ impl HeadingCall {
     fn turned_along(self, bearing_rad: Option<f32>) -> f32
         ensures { result ≡ turned_along bearing_rad self.dt self.config self.target_rad }
     {
-        let yaw_radps = self.config.waypoint_yaw_radps;
-        if let Some(bearing) = bearing_rad
-            && yaw_radps > 0.0
-        {
-            return turned_toward(self.target_rad, bearing, yaw_radps * self.dt);
+        match bearing_rad {
+            Some(to_rad) if self.config.waypoint_yaw_radps > 0.0 => {
+                self.turned(to_rad, self.config.waypoint_yaw_radps)
+            }
+            _ => self.target_rad,
         }
-        self.target_rad
     }
 
     // The wind's heading, which is asked for on station only.
@@ -326,9 +327,8 @@ impl HeadingCall {
     fn stuck(self) -> bool
         ensures { result ≡ stuck self.config self.target_rad self.state }
     {
-        let state = self.state;
-        let error_rad = math::wrap_angle(self.target_rad - state.heading_rad);
-        let toward_radps = floats::compare::signum(error_rad) * state.angular_velocity_z_radps;
+        let error_rad = math::wrap_angle(self.target_rad - self.state.heading_rad);
+        let toward_radps = floats::compare::signum(error_rad) * self.state.angular_velocity_z_radps;
         floats::compare::abs(error_rad) > self.config.heading_yield_rad
             && toward_radps < self.config.heading_yield_rate_radps
     }
@@ -365,13 +365,4 @@ fn on_station(bearing_rad: Option<f32>, config: HeadingConfig, to_m: Vec2) -> bo
     ensures { result ≡ on_station bearing_rad config to_m }
 {
     bearing_rad.is_none() || math::within(to_m, config.waypoint_yaw_min_leg_m)
-}
-
-// `from_rad` turned to `to_rad`, the shorter way round, by at most `step_rad`: not at all where that is
-// negative or a NaN.
-#[tactic(auto, unfolding(crate::specs::LegHeading::turned_toward))]
-fn turned_toward(from_rad: f32, to_rad: f32, step_rad: f32) -> f32
-    ensures { result ≡ turned_toward from_rad to_rad step_rad }
-{
-    from_rad + math::clamp_symmetric(math::wrap_angle(to_rad - from_rad), step_rad)
 }

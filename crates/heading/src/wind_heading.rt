@@ -12,6 +12,7 @@ use wind::estimate::WindEstimate;
 // that was weighed last, which is not weighed again unless it holds a NaN.
 #[derive(Clone, Copy, Default)]
 pub struct WindHeading {
+    // A number and no enum of two: it is 1 or -1 in every craft, but a C program hands in any number.
     pub side: Option<f32>,
     pub target_rad: Option<f32>,
     pub weighed: Option<WindEstimate>,
@@ -41,7 +42,8 @@ impl WindHeading {
     }
 
     // The heading to turn to: the latched one, once the present estimate is weighed. It is off without a
-    // positive least wind.
+    // positive least wind. The estimate may be none here and is there in what follows, so that it makes no
+    // struct with the configuration and the heading.
     #[tactic(auto, unfolding(crate::specs::WindHeading::target, crate::specs::WindHeading::target_at))]
     pub fn target_rad(
         self,
@@ -60,7 +62,7 @@ impl WindHeading {
         }
         WindTurn {
             wind: self,
-            target_rad: self.target_rad.filter(|_| is_on),
+            target_rad: if is_on { self.target_rad } else { None },
         }
     }
 

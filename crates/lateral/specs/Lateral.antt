@@ -1,6 +1,6 @@
 -- Lateral control, from controllers/lateral.rs. Assumes nothing.
-use Rattle.std.specs.Prelude.{cond, false, ◌&&◌, Float, None, Option, Some, unwrap_or}
-use Rattle.std.specs.Float.{inf}
+use Rattle.std.specs.Prelude.{cond, false, ◌&&◌, List, get_or, Float, None, Option, Some, unwrap_or}
+use Rattle.std.specs.Float.{inf, nan}
 use Rattle.std.specs.Float.Ieee.{lt, le}
 use Rattle.std.specs.Float.Ieee.Scale.{finite}
 use Rattle.floats.specs.Ops.{◌⊗◌, ◌⊘◌}
@@ -14,6 +14,18 @@ use Rattle.lateral.specs.declared.LateralEstimate.{LateralEstimate}
 use Rattle.lateral.specs.declared.LateralController.{LateralController}
 use Rattle.lateral.specs.declared.Shaping.{Shaping}
 use Rattle.lateral.specs.declared.LateralControl.{LateralControl}
+
+-- the configuration of eight numbers, in the order of its fields
+abbrev pub config_of : List Float → LateralControllerConfig
+config_of values =
+    record {
+      position_p = get_or values 0 nan;
+      velocity = record { p = get_or values 1 nan; i = get_or values 2 nan; d = get_or values 3 nan };
+      max_integral = get_or values 4 nan;
+      max_accel_mps2 = get_or values 5 nan;
+      brake_mps2 = get_or values 6 nan;
+      braking_share = get_or values 7 nan;
+    }
 
 unfoldable pub fresh : LateralController
 fresh = record { integrated_error = zeros; derivative = no_history; shaped_velocity_mps = None; commanded_velocity_mps = zeros }

@@ -3,7 +3,7 @@
 #![tactic(auto)]
 
 ghost use Rattle.std.specs.Prelude.{◌≡◌};
-ghost use Rattle.lateral.specs.Lateral.{fresh, max_speed, braking_decel, closing_velocity, shape, hold_against_limit, desired_velocity, tracked, neutral, control};
+ghost use Rattle.lateral.specs.Lateral.{config_of, fresh, max_speed, braking_decel, closing_velocity, shape, hold_against_limit, desired_velocity, tracked, neutral, control};
 
 use controllers::Gains;
 use controllers::derivative::DerivativeState;
@@ -21,6 +21,32 @@ pub struct LateralControllerConfig {
     pub max_accel_mps2: f32,
     pub brake_mps2: f32,
     pub braking_share: f32,
+}
+
+// From the numbers in the order of the fields.
+impl From<[f32; 8]> for LateralControllerConfig {
+    ghost from_gives = { λ fields config. config ≡ config_of fields };
+
+    fn from(fields: [f32; 8]) -> LateralControllerConfig {
+        let [
+            position_p,
+            p,
+            i,
+            d,
+            max_integral,
+            max_accel_mps2,
+            brake_mps2,
+            braking_share,
+        ] = fields;
+        LateralControllerConfig {
+            position_p,
+            velocity: Gains { p, i, d },
+            max_integral,
+            max_accel_mps2,
+            brake_mps2,
+            braking_share,
+        }
+    }
 }
 
 // `velocity_mps` is added to the velocity that closes the position error. A `max_speed_mps` that is a
@@ -112,13 +138,12 @@ impl LateralController {
     ) -> LateralControl
         ensures { result ≡ tracked self config dt shaping velocity_error limit_mps2 }
     {
-        let gains = config.velocity;
         let stepped = self.derivative.step(velocity_error, dt);
         let integral = math::clamp_symmetric_each(
             hold_against_limit(
                 self.integrated_error,
                 velocity_error * dt,
-                gains.i,
+                config.velocity.i,
                 limit_mps2,
             ),
             config.max_integral,
@@ -131,9 +156,9 @@ impl LateralController {
                 commanded_velocity_mps: shaping.commanded_mps,
             },
             accel_mps2: shaping.feedforward_mps2
-                + velocity_error * gains.p
-                + integral * gains.i
-                + stepped.derivative * gains.d,
+                + velocity_error * config.velocity.p
+                + integral * config.velocity.i
+                + stepped.derivative * config.velocity.d,
         }
     }
 
@@ -154,8 +179,9 @@ impl LateralController {
     }
 }
 
-// The cap on the speed: none, an infinity, for a NaN and for a speed that is not positive.
-#[tactic(auto, unfolding(crate::specs::Lateral::max_speed))]
+// The cap on the speed, a number as in a record: none, an infinity, for a NaN and for one that is not
+// positive.
+#[tactic(auto, unfolding(crate::specs::Lateral::max_speed), using(floats::proofs::Laws::Special::infinity))]
 fn max_speed(max_speed_mps: f32) -> f32
     ensures { result ≡ max_speed max_speed_mps }
 {
@@ -216,7 +242,8 @@ fn shape(
     }
 }
 
-// The deceleration that a leg brakes at; 0 for none. A NaN counts as none.
+// The deceleration that a leg brakes at; 0 for none. A NaN counts as none. It is no `Option`: a share may
+// be 0, below 0 or a NaN too, so the curve tests the number anyway.
 #[tactic(auto, unfolding(crate::specs::Lateral::braking_decel))]
 fn braking_decel_mps2(config: LateralControllerConfig) -> f32
     ensures { result ≡ braking_decel config }

@@ -1,15 +1,19 @@
 -- How the port divides what guidance asks of a length and of a speed: what its inner functions give, and what they may tell without a root. Nothing here
 -- has to be believed, since every step of guidance is stated without it. Assumes nothing.
-use Rattle.std.specs.Prelude.{◌≡◌, Bool, true, false, ◌&&◌, Float}
+use Rattle.std.specs.Prelude.{◌≡◌, Bool, true, false, cond, ◌&&◌, Float}
 use Rattle.std.specs.Float.{binary32}
-use Rattle.std.specs.Float.Ieee.{lt, le}
+use Rattle.std.specs.Float.Ieee.{is_nan, lt, le}
 use Rattle.std.specs.Float.Ieee.Scale.{finite}
 use Rattle.floats.specs.Ops.{f32}
-use Rattle.floats.specs.MinMax.{min}
+use Rattle.floats.specs.MinMax.{min, clamp}
 use Rattle.floats.specs.Sqrt.{sqrt}
 use Rattle.math.specs.declared.vectors.Vec2.{Vec2}
 use Rattle.math.specs.Vectors.{norm}
-use Rattle.math.specs.Math.{shaped_closing_speed}
+use Rattle.math.specs.Math.{zero, shaped_closing_speed}
+
+-- `value` clamped to [low, high]; a NaN becomes 0
+unfoldable pub saturate : Float → Float → Float → Float
+saturate value low high = cond (is_nan value) zero (clamp value low high)
 
 -- whether v is at most `limit` long, and whether it is longer
 unfoldable pub within : Vec2 → Float → Bool

@@ -7,7 +7,7 @@ pub mod vectors;
 ghost use Rattle.std.specs.Prelude.{◌≡◌, true, false};
 ghost use Rattle.std.specs.Float.Ieee.{lt};
 ghost use Rattle.math.specs.Math.{zero, cap_magnitude, past, saturate_unit, saturate_symmetric, clamp_symmetric, limit_or_zero, clamp_symmetric_each, all_finite, neu_to_ned, tilt_boost, saturate_throttle, guard_sink, shaped_closing_speed, braked_speed, wrap_angle, rem_euclid};
-ghost use Rattle.math.specs.Inner.{within, exceeds, limited_closing_speed, has_plain_square, RootWithin, RootBeyond};
+ghost use Rattle.math.specs.Inner.{saturate, within, exceeds, limited_closing_speed, has_plain_square, RootWithin, RootBeyond};
 
 pub use std::f32::consts::{FRAC_PI_2, PI, TAU};
 use vectors::{Quaternion, Vec2, Vec3};
@@ -115,14 +115,23 @@ pub fn saturate_unit(value: f32) -> f32
 
 // `value` saturated to [-limit, limit]; a NaN becomes 0, and a limit that is negative or a NaN counts
 // as 0.
-#[tactic(auto, unfolding(crate::specs::Math::saturate_symmetric))]
+#[tactic(auto, unfolding(crate::specs::Math::saturate_symmetric, crate::specs::Math::clamp_symmetric, crate::specs::Inner::saturate))]
 pub fn saturate_symmetric(value: f32, limit: f32) -> f32
     ensures { result ≡ saturate_symmetric value limit }
+{
+    let limit = limit_or_zero(limit);
+    saturate(value, -limit, limit)
+}
+
+// `value` clamped to [low, high]; a NaN becomes 0.
+#[tactic(auto, unfolding(crate::specs::Inner::saturate))]
+fn saturate(value: f32, low: f32, high: f32) -> f32
+    ensures { result ≡ saturate value low high }
 {
     if value.is_nan() {
         return 0.0;
     }
-    clamp_symmetric(value, limit)
+    floats::minmax::clamp(value, low, high)
 }
 
 // `value` clamped to [-limit, limit]; a NaN stays one, and a limit that is negative or a NaN counts
@@ -166,11 +175,7 @@ pub fn all_finite(value: Vec2) -> bool
 pub fn neu_to_ned(v: Vec3) -> Vec3
     ensures { result ≡ neu_to_ned v }
 {
-    Vec3 {
-        x: v.x,
-        y: v.y,
-        z: -v.z,
-    }
+    Vec3 { z: -v.z, ..v }
 }
 
 // The factor that keeps a thrust's vertical part while tilted: 1 / cos(tilt), at most 2, falling to
@@ -179,9 +184,7 @@ pub fn neu_to_ned(v: Vec3) -> Vec3
 pub fn tilt_boost(attitude: Quaternion) -> f32
     ensures { result ≡ tilt_boost attitude }
 {
-    let x = attitude.i;
-    let y = attitude.j;
-    let cosine = 1.0 - 2.0 * (x * x + y * y);
+    let cosine = 1.0 - 2.0 * (attitude.i * attitude.i + attitude.j * attitude.j);
     if !floats::compare::is_finite(cosine) {
         return 1.0;
     }
@@ -190,14 +193,11 @@ pub fn tilt_boost(attitude: Quaternion) -> f32
 }
 
 // A throttle saturated to [0, 1]; a NaN becomes 0.
-#[tactic(auto, unfolding(crate::specs::Math::saturate_throttle))]
+#[tactic(auto, unfolding(crate::specs::Math::saturate_throttle, crate::specs::Inner::saturate))]
 pub fn saturate_throttle(value: f32) -> f32
     ensures { result ≡ saturate_throttle value }
 {
-    if value.is_nan() {
-        return 0.0;
-    }
-    floats::minmax::clamp(value, 0.0, 1.0)
+    saturate(value, 0.0, 1.0)
 }
 
 // The sink guard: `thrust` raised by `gain` for each m/s of sink past `limit_mps`, saturated to [0, 1];
@@ -207,10 +207,8 @@ pub fn guard_sink(thrust: f32, climb_mps: f32, limit_mps: f32, gain: f32) -> Opt
     ensures { result ≡ guard_sink thrust climb_mps limit_mps gain }
 {
     let excess_mps = -limit_mps - climb_mps;
-    if limit_mps > 0.0 && excess_mps > 0.0 {
-        return Some(saturate_throttle(thrust + gain * excess_mps));
-    }
-    None
+    let sinks = limit_mps > 0.0 && excess_mps > 0.0;
+    sinks.then(|| saturate_throttle(thrust + gain * excess_mps))
 }
 
 // The speed toward a target `distance_m` away that a deceleration of `accel_mps2` can bring to zero
@@ -256,16 +254,17 @@ pub fn limited_closing_speed(distance_m: f32, p: f32, accel_mps2: f32, limit_mps
 }
 
 // Whether the squares tell without a root that the closing speed reaches `limit_mps`.
+#[tactic(auto, using(crate::proofs::Laws::Reached::told_reached))]
 fn surely_reaches(distance_m: f32, p: f32, accel_mps2: f32, limit_mps: f32) -> bool
     ensures { result ≡ true → limited_closing_speed distance_m p accel_mps2 limit_mps ≡ limit_mps }
 {
-    if distance_m > 0.0 && p > 0.0 && accel_mps2 > 0.0 {
-        let linear_m = accel_mps2 / (p * p);
-        if linear_m < distance_m && has_plain_square(limit_mps) {
-            return limit_mps * limit_mps <= 2.0 * accel_mps2 * (distance_m - linear_m / 2.0);
-        }
-    }
-    false
+    let linear_m = accel_mps2 / (p * p);
+    distance_m > 0.0
+        && p > 0.0
+        && accel_mps2 > 0.0
+        && linear_m < distance_m
+        && has_plain_square(limit_mps)
+        && limit_mps * limit_mps <= 2.0 * accel_mps2 * (distance_m - linear_m / 2.0)
 }
 
 // An angle in radians wrapped to [-π, π); one that is not finite gives a NaN.
@@ -278,7 +277,8 @@ pub fn wrap_angle(angle: f32) -> f32
 
 // The remainder from 0 on for a positive divisor: `rem` has the sign of `value`, so a negative one is
 // shifted up, and a sum that rounds to the divisor stays that. A value between -divisor and divisor is
-// its own remainder.
+// its own remainder. (std's goes by `%`, which is a call of the C library's fmodf.)
+#[tactic(auto, unfolding(crate::specs::Math::rem_euclid), using(crate::proofs::Laws::Wrap::rem_euclid_inside, crate::proofs::Laws::Wrap::rem_euclid_negative))]
 pub fn rem_euclid(value: f32, divisor: f32) -> f32
     ensures { result ≡ rem_euclid value divisor }
 {

@@ -1,7 +1,7 @@
 // Vectors of two and of three floats and the attitude's quaternion, in place of nalgebra's types. A
 // sum of squares is read as x*x + y*y, left to right.
 ghost use Rattle.std.specs.Prelude.{◌≡◌};
-ghost use Rattle.math.specs.Vectors.{zeros, plus, minus, times, over, dot, norm};
+ghost use Rattle.math.specs.Vectors.{zeros, plus, minus, times, over, dot, dot3, norm, horizontal};
 
 use std::ops::{Add, Div, Mul, Sub};
 
@@ -45,6 +45,24 @@ impl Vec2 {
         ensures { result ≡ norm self }
     {
         floats::sqrt::sqrtf(self.dot(self))
+    }
+}
+
+impl Vec3 {
+    // North and east, without the height.
+    pub fn horizontal(self) -> Vec2
+        ensures { result ≡ horizontal self }
+    {
+        Vec2 {
+            x: self.x,
+            y: self.y,
+        }
+    }
+
+    pub fn dot(self, other: Vec3) -> f32
+        ensures { result ≡ dot3 self other }
+    {
+        self.x * other.x + self.y * other.y + self.z * other.z
     }
 }
 

@@ -1,6 +1,6 @@
 -- What the proofs share, and what the layers above cite. Assumes nothing.
-pub mod Written
 pub mod Parts
+pub mod Configuration
 pub mod Steps
 pub mod Underway
 pub mod Laws

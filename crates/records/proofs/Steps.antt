@@ -1,10 +1,9 @@
 -- The record operation by what the port's functions give: a record's answer, written, is what the definition answers. Assumes nothing.
-use Rattle.std.specs.Prelude.{None, Option, Some, Result, Ok, Err}
-use Rattle.std.specs.Result.{MatchResult}
+use Rattle.std.specs.Prelude.{None, Option, Some, Result, Ok, Err, MatchOption, MatchResult}
 use Prim.Native.Nat.{ℕ, ◌+◌, ◌-◌, ◌≤◌, ◌<◌}
 use mathlib.Core.Path.{◌≡◌, refl, sym}
 use mathlib.Core.Bool.{false, true≢false}
-use mathlib.Core.List.{List, ◌∷◌, ◌++◌}
+use mathlib.Core.List.{List, [], ◌∷◌, ◌++◌}
 use native.Mathlib.Omega.{arith}
 use borrow.Author.Tests.{ne_eqb, lt-ltb}
 use lib.ListN.{length, take, drop, get_or}
@@ -15,6 +14,7 @@ use Rattle.records.specs.declared.kinds.UnknownKind.{UnknownKind}
 use Rattle.records.specs.declared.kinds.Kind.{Kind}
 use Rattle.records.specs.declared.kinds.Kind.TheVariants as kinds
 use Rattle.records.specs.Kinds.{kind_of}
+use Rattle.records.specs.Layout.{byte_at}
 use Rattle.records.specs.declared.craft.Craft.{Craft}
 use Rattle.records.specs.declared.turn.Turned.{Turned}
 use Rattle.records.specs.declared.answer.Refusal.TheVariants as refusals
@@ -42,12 +42,6 @@ unfolding judged with_kind
 judged_first guidance bytes rest byte kind e is =
     let some : length (byte ∷ rest) ≡ 0 → ⊥ = λ none. omega arith in rw (e, is, ne_eqb (length (byte ∷ rest)) 0 some)
 
--- a byte that is no kind
-pub no_kind : (r : Result Kind UnknownKind) (kind : Option Kind) → MatchResult r (λ k. kind ≡ Some k) (λ e. kind ≡ None) → ((k : Kind) → r ≡ Ok k → ⊥)
-    → kind ≡ None
-no_kind (Ok k) kind given other = absurd (other k refl)
-no_kind (Err e) kind given other = given
-
 -- the craft whose guidance is known
 pub held : (craft : Craft) (g : CopterGuidance) → craft.guidance ≡ Some g → craft ≡ configured g
 held craft g e i = record { guidance = e i }
@@ -70,7 +64,26 @@ pub not_configured : (guidance : Option CopterGuidance) (kind : InFlight) → se
 not_configured None _ other = refl
 not_configured (Some g) _ other = absurd (true≢false other)
 
--- a `let .. else` on a kind that is not one in flight
+-- of the known kinds, `turn` serves those in flight alone
 pub unserved : (g : CopterGuidance) (kind : Kind) → ((k : InFlight) → kind ≡ kinds.InFlight k → ⊥) → serves (Some g) (Some kind) ≡ false
 unserved g kinds.Configure other = refl
 unserved g (kinds.InFlight k) other = absurd (other k refl)
+
+-- `turn` serves no record without a byte
+pub none_unserved : {A : Type 0} (Q : A → Type 0) (guidance : Option CopterGuidance) (bytes : List ℕ) (first : Option A)
+    → MatchOption first (length bytes ≡ 0) Q → first ≡ None → serves guidance (kind_of (byte_at bytes 0)) ≡ false
+unfolding kind_of
+none_unserved Q None bytes first cases none = refl
+none_unserved Q (Some g) [] first cases none = refl
+none_unserved Q (Some g) (byte ∷ bytes) first cases none = absurd (omega (arith, rw none at cases))
+
+-- nor a byte that is no kind, nor a configure
+pub kind_unserved : (guidance : Option CopterGuidance) (byte : ℕ) (r : Result Kind UnknownKind) (e : UnknownKind)
+    → MatchResult r (λ k. kind_of byte ≡ Some k) (λ e. kind_of byte ≡ None) → r ≡ Err e → serves guidance (kind_of byte) ≡ false
+kind_unserved None byte r e given is = refl
+kind_unserved (Some g) byte r e given is = rw (rw is at given) refl
+
+pub configure_unserved : (guidance : Option CopterGuidance) (byte : ℕ) (r : Result Kind UnknownKind)
+    → MatchResult r (λ k. kind_of byte ≡ Some k) (λ e. kind_of byte ≡ None) → r ≡ Ok kinds.Configure → serves guidance (kind_of byte) ≡ false
+configure_unserved None byte r given is = refl
+configure_unserved (Some g) byte r given is = rw (rw is at given) refl

@@ -1,7 +1,7 @@
 -- A flight under way: the flight that a loop of the port has come to, from the one that it set out with. What is to come of the two is the same.
 -- Assumes nothing.
-use Prim.Native.Nat.{ℕ, ◌+◌, ◌-◌, ◌≤◌}
-use mathlib.Core.Path.{◌≡◌, refl, ap, ◌∙◌}
+use Prim.Native.Nat.{ℕ, ◌+◌, ◌-◌, ◌<◌, ◌≤◌}
+use mathlib.Core.Path.{◌≡◌, refl, sym, ap, ◌∙◌}
 use mathlib.Core.Bool.{Bool, false}
 use mathlib.Core.List.{List, [], ◌++◌, append-nil}
 use native.Mathlib.Omega.{arith}
@@ -15,7 +15,7 @@ use Rattle.records.specs.Flight.{Flight, ends_flight, waits, onward}
 use Rattle.records.specs.Inner.{came, waiting, serving, next, rest, Stands, Served}
 use Rattle.records.proofs.Parts.{lent}
 use Rattle.records.proofs.Steps.{written_step}
-use Rattle.records.proofs.Laws.Flight.{next_stands, rest_next}
+use Rattle.records.proofs.Laws.Flight.{ready_some, next_stands, rest_next}
 
 -- ---- further on
 
@@ -50,6 +50,12 @@ standing craft taken written ended out = record { craft = craft; taken = taken; 
 
 none_behind : (l : List ℕ) (n : ℕ) → drop (length l - n) (drop n l) ≡ []
 none_behind l n = drop_of_length-le (drop n l) {i = length l - n} (omega (arith, length-drop n l))
+
+-- where a flight goes on a byte is left
+pub byte_left : (last waited : Bool) (bytes : List ℕ) (taken room : ℕ) → waited ≡ waits last (take (length bytes - taken) (drop taken bytes)) room
+    → waited ≡ false → taken < length bytes
+byte_left last waited bytes taken room said goes_on =
+    let some = ready_some last (drop taken bytes) room (rw (lent bytes taken) at (sym said ∙ goes_on)) in omega (arith, some, length-drop taken bytes)
 
 module _ (bytes out : List ℕ) (craft : Craft) (taken written : ℕ) where
   pub waits_there : (last b : Bool) → b ≡ waits last (take (length bytes - taken) (drop taken bytes)) (length out - written)

@@ -1,8 +1,6 @@
 -- How the port divides a record and a flight: what its inner functions give. Nothing here has to be believed, since `record` and `fly` are stated without it.
 -- Assumes nothing.
-use Rattle.std.specs.Prelude.{ℕ, ◌+◌, ◌≤◌, ◌≡◌, Bool, true, false, List, length, drop, None, Option, Some}
-use Rattle.math.specs.declared.vectors.Vec2.{Vec2}
-use Rattle.math.specs.declared.vectors.Vec3.{Vec3}
+use Rattle.std.specs.Prelude.{ℕ, ◌≤◌, ◌≡◌, Bool, true, false, List, length, drop, None, Option, Some}
 use Rattle.copter.specs.declared.config.CopterGuidanceConfig.{CopterGuidanceConfig}
 use Rattle.copter.specs.declared.memory.Memory.{Memory}
 use Rattle.records.specs.declared.answer.Refusal.{Refusal}
@@ -11,19 +9,11 @@ use Rattle.records.specs.declared.answer.Answer.TheVariants as answers
 use Rattle.records.specs.declared.kinds.Kind.{Kind}
 use Rattle.records.specs.declared.kinds.Kind.TheVariants as kinds
 use Rattle.records.specs.declared.turn.Turned.{Turned}
-use Rattle.records.specs.Layout.{byte_at, float_at}
+use Rattle.records.specs.Layout.{byte_at}
 use Rattle.records.specs.Kinds.{kind_of}
 use Rattle.records.specs.Step.{Verdict, Judged, craft_after, answer_of, configured, step}
 use Rattle.copter.specs.declared.memory.CopterGuidance.{CopterGuidance}
 use Rattle.records.specs.Flight.{Flight, waits, onward, fly_on}
-
--- ---- reading
-
-abbrev pub vec2_at : List ℕ → ℕ → Vec2
-vec2_at part at = record { x = float_at part at; y = float_at part (at + 4) }
-
-abbrev pub vec3_at : List ℕ → ℕ → Vec3
-vec3_at part at = record { x = float_at part at; y = float_at part (at + 4); z = float_at part (at + 8) }
 
 -- ---- a record
 

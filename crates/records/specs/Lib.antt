@@ -1,5 +1,6 @@
 -- The definitions that the contracts cite, and the values of each layout by name. Assumes nothing.
 pub mod Layout
+pub mod Body
 pub mod Kinds
 pub mod Values
 pub mod Answer

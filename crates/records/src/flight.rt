@@ -33,14 +33,12 @@ fn cut_short(bytes: &[u8]) -> bool
     requires { 1 ≤ length bytes.now }
     ensures { result ≡ cut_short bytes.now }
 {
-    match Kind::try_from(bytes[0]) {
-        Ok(kind) => bytes.len() - 1 < kind.body_length(),
-        Err(_) => false,
-    }
+    Kind::try_from(bytes[0]).is_ok_and(|kind| bytes.len() - 1 < kind.body_length())
 }
 
 // Whether the next record is left for later: no byte of it is there, there is no room for its
-// answer, or it is cut short and more bytes may come.
+// answer, or it is cut short and more bytes may come. `room` is what the answers have left, and no length of
+// `bytes`.
 #[tactic(auto, unfolding(crate::specs::Flight::waits))]
 fn waits(last: bool, bytes: &[u8], room: usize) -> bool
     ensures { result ≡ waits last bytes.now room }
@@ -50,6 +48,7 @@ fn waits(last: bool, bytes: &[u8], room: usize) -> bool
 
 // Serves records of a configured craft, as long as they are of kinds that leave its configuration, which
 // stays where it is.
+#[tactic(auto, using(crate::proofs::Underway::byte_left))]
 fn serve(at: Flown, bytes: &[u8], last: bool, out: &mut [u8]) -> Flown
     requires { Going bytes.now (length out.old) (flown at out.old) }
     ensures { Served bytes.now last (flown at out.old) (flown result out.new) }
@@ -64,10 +63,7 @@ fn serve(at: Flown, bytes: &[u8], last: bool, out: &mut [u8]) -> Flown
     let mut ended = false;
     // Each record says how long it is, so no iterator goes over them.
     while !waits(last, &bytes[taken..], out.len() - written) {
-        let Ok(kind) = Kind::try_from(bytes[taken]) else {
-            break;
-        };
-        let Kind::InFlight(in_flight) = kind else {
+        let Ok(Kind::InFlight(in_flight)) = Kind::try_from(bytes[taken]) else {
             break;
         };
         let turned = turn(in_flight, config, memory, &bytes[taken + 1..]);
@@ -117,12 +113,10 @@ pub fn fly(before: Craft, bytes: &[u8], last: bool, out: &mut [u8]) -> Flown
         written: 0,
         ended: false,
     };
+    // Serves and begins by turns, until a record waits or one ends the flight.
     loop {
         at = serve(at, bytes, last, out);
-        if at.ended {
-            return at;
-        }
-        if waits(last, &bytes[at.taken..], out.len() - at.written) {
+        if at.ended || waits(last, &bytes[at.taken..], out.len() - at.written) {
             return at;
         }
         at = begin(at, bytes, out);

@@ -104,23 +104,17 @@ impl Kind {
     }
 }
 
-// What a byte of kind says; none for a byte that names no kind.
+// What a byte of kind says; none for a byte that names no kind. Public before `TryFrom` said the same.
 pub fn kind_of(byte: u8) -> Option<Kind>
     ensures { result ≡ kind_of byte }
 {
-    match Kind::try_from(byte) {
-        Ok(kind) => Some(kind),
-        Err(_) => None,
-    }
+    Kind::try_from(byte).ok()
 }
 
-// How many bytes follow: no byte where no kind is named.
+// How many bytes follow: no byte where no kind is named. Public before `Kind`'s method said the same.
 #[tactic(auto, unfolding(crate::specs::Kinds::body_length))]
 pub fn body_length(kind: Option<Kind>) -> usize
     ensures { result ≡ body_length kind }
 {
-    match kind {
-        Some(kind) => kind.body_length(),
-        None => 0,
-    }
+    kind.map_or(0, Kind::body_length)
 }

@@ -2,6 +2,7 @@
 #![tactic(auto)]
 
 pub mod answer;
+mod body;
 pub mod craft;
 pub mod flight;
 pub mod kinds;

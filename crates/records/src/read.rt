@@ -1,24 +1,26 @@
 // Decodes a record's body: what it says, or why it is refused, from the bytes alone. A reader gets the part
-// of the body that is its own.
-ghost use Rattle.std.specs.Prelude.{◌≡◌, ◌+◌, ◌≤◌, length};
+// of the body that is its own, and asks for its layout's size: an array of so many bytes would be cut from
+// the body by a test that never fails.
+ghost use Rattle.std.specs.Prelude.{◌≡◌, ◌+◌, ◌*◌, ◌≤◌, length, leb, eqb, cond, Ok, Err};
 ghost use Rattle.copter.specs.Config.{field_count};
 ghost use Rattle.records.specs.Layout.{word_at, float_at, numbers, size, floats_from};
 ghost use Rattle.records.specs.declared.kinds.Call.TheVariants as calls;
 ghost use Rattle.records.specs.declared.kinds.InFlight.TheVariants as flights;
 ghost use Rattle.records.specs.Kinds.{command_layout, in_flight_layout, state_layout};
-ghost use Rattle.records.specs.Inner.{vec2_at, vec3_at};
-ghost use Rattle.records.specs.Read.{state, attitude_command};
+ghost use Rattle.records.specs.declared.answer.Refusal.TheVariants as refusals;
+ghost use Rattle.records.specs.Read.{state, attitude_command, marks_ok, waypoint_command};
 ghost use Rattle.records.specs.Read.{absolute_attitude_command, land_command, absolute_rate_command, command};
 ghost use Rattle.records.specs.Read.{time_step_ok, heading_ok, configuration, prime_input, read};
 
 use crate::answer::Refusal;
+use crate::body::Body;
 use crate::kinds::{COMMAND_START, Call, InFlight, NUMBER};
 use copter::commands::{
     AbsoluteAttitudeCommand, AbsoluteRateCommand, AttitudeCommand, Command, LandCommand,
     WaypointCommand,
 };
 use copter::config::{CopterGuidanceConfig, FIELDS};
-use math::vectors::{Quaternion, Vec2, Vec3};
+use math::vectors::Vec2;
 use wind::state::VehicleState;
 
 // What a configured craft is told.
@@ -56,118 +58,113 @@ fn read_f32(part: &[u8], at: usize) -> f32
     floats::bits::from_bits(read_word(part, at))
 }
 
-fn read_vec2(part: &[u8], at: usize) -> Vec2
-    requires { at + 8 ≤ length part.now }
-    ensures { result ≡ vec2_at part.now at }
+// The floats that a part starts with.
+fn floats<const N: usize>(part: &[u8]) -> [f32; N]
+    requires { 4 * N ≤ length part.now }
+    ensures { result ≡ floats_from 0 N part.now }
 {
-    Vec2 {
-        x: read_f32(part, at),
-        y: read_f32(part, at + 4),
-    }
+    std::array::from_fn(|i| read_f32(part, i * NUMBER))
 }
 
-fn read_vec3(part: &[u8], at: usize) -> Vec3
-    requires { at + 12 ≤ length part.now }
-    ensures { result ≡ vec3_at part.now at }
-{
-    Vec3 {
-        x: read_f32(part, at),
-        y: read_f32(part, at + 4),
-        z: read_f32(part, at + 8),
-    }
-}
-
-#[tactic(auto, unfolding(crate::specs::Read::state))]
+#[tactic(auto, unfolding(crate::specs::Read::state, crate::specs::Layout::floats_from))]
 fn read_state(part: &[u8]) -> VehicleState
     requires { size state_layout ≤ length part.now }
     ensures { result ≡ state part.now }
 {
-    VehicleState {
-        position_m: read_vec3(part, 0),
-        velocity_mps: read_vec3(part, 12),
-        acceleration_mps2: read_vec3(part, 24),
-        attitude: Quaternion {
-            w: read_f32(part, 36),
-            i: read_f32(part, 40),
-            j: read_f32(part, 44),
-            k: read_f32(part, 48),
-        },
-        angular_velocity_z_radps: read_f32(part, 52),
-        heading_rad: read_f32(part, 56),
-    }
+    VehicleState::from(floats::<15>(part))
 }
 
 // The commands of four numbers fill structs with fields of other names.
-#[tactic(auto, unfolding(crate::specs::Read::attitude_command))]
+#[tactic(auto, unfolding(crate::specs::Read::attitude_command, crate::specs::Layout::floats_from))]
 fn read_attitude(part: &[u8]) -> AttitudeCommand
     requires { size (command_layout calls.Attitude) ≤ length part.now }
     ensures { result ≡ attitude_command part.now }
 {
+    let [throttle, roll, pitch, yaw] = floats::<4>(part);
     AttitudeCommand {
-        throttle: read_f32(part, 0),
-        roll: read_f32(part, 4),
-        pitch: read_f32(part, 8),
-        yaw: read_f32(part, 12),
+        throttle,
+        roll,
+        pitch,
+        yaw,
+    }
+}
+
+// Whether what a byte marks is present: 1 it is, 0 it is absent, and all else is refused.
+fn mark(byte: u8) -> Result<bool, Refusal>
+    ensures { result ≡ cond (leb byte 1) (Ok (eqb byte 1)) (Err refusals.Mark) }
+{
+    match byte {
+        0 => Ok(false),
+        1 => Ok(true),
+        _ => Err(Refusal::Mark),
     }
 }
 
 // A waypoint, which a mark that is neither 0 nor 1 refuses. The floats after a mark of 0 are not read.
-#[tactic(auto, unfolding(crate::specs::Read::command, crate::specs::Read::marks_ok, crate::specs::Read::waypoint_command))]
-fn read_waypoint(part: &[u8]) -> Result<Command, Refusal>
+// Its marks part the floats, so each is read at its place.
+#[tactic(auto, unfolding(crate::specs::Read::marks_ok, crate::specs::Read::waypoint_command))]
+fn read_waypoint(part: &[u8]) -> Result<WaypointCommand, Refusal>
     requires { size (command_layout calls.Waypoint) ≤ length part.now }
-    ensures { result ≡ command calls.Waypoint part.now }
+    ensures { result ≡ cond (marks_ok part.now) (Ok (waypoint_command part.now)) (Err refusals.Mark) }
 {
-    let velocity_mark = part[8];
-    let heading_mark = part[25];
-    if velocity_mark > 1 || heading_mark > 1 {
-        return Err(Refusal::Mark);
-    }
-    Ok(Command::Waypoint(WaypointCommand {
-        position_m: read_vec2(part, 0),
-        velocity_mps: (velocity_mark == 1).then(|| read_vec2(part, 9)),
+    let has_velocity = mark(part[8])?;
+    let has_heading = mark(part[25])?;
+    Ok(WaypointCommand {
+        position_m: Vec2 {
+            x: read_f32(part, 0),
+            y: read_f32(part, 4),
+        },
+        velocity_mps: has_velocity.then(|| Vec2 {
+            x: read_f32(part, 9),
+            y: read_f32(part, 13),
+        }),
         altitude_m: read_f32(part, 17),
         cruise_speed_mps: read_f32(part, 21),
-        heading_rad: (heading_mark == 1).then(|| read_f32(part, 26)),
-    }))
+        heading_rad: has_heading.then(|| read_f32(part, 26)),
+    })
 }
 
-#[tactic(auto, unfolding(crate::specs::Read::absolute_attitude_command))]
+#[tactic(auto, unfolding(crate::specs::Read::absolute_attitude_command, crate::specs::Layout::floats_from))]
 fn read_absolute_attitude(part: &[u8]) -> AbsoluteAttitudeCommand
     requires { size (command_layout calls.AbsoluteAttitude) ≤ length part.now }
     ensures { result ≡ absolute_attitude_command part.now }
 {
+    let [roll_rad, pitch_rad, heading_rad, thrust] = floats::<4>(part);
     AbsoluteAttitudeCommand {
-        roll_rad: read_f32(part, 0),
-        pitch_rad: read_f32(part, 4),
-        heading_rad: read_f32(part, 8),
-        thrust: read_f32(part, 12),
+        roll_rad,
+        pitch_rad,
+        heading_rad,
+        thrust,
     }
 }
 
-#[tactic(auto, unfolding(crate::specs::Read::land_command))]
+#[tactic(auto, unfolding(crate::specs::Read::land_command, crate::specs::Layout::floats_from))]
 fn read_land(part: &[u8]) -> LandCommand
     requires { size (command_layout calls.Land) ≤ length part.now }
     ensures { result ≡ land_command part.now }
 {
+    let [x, y] = floats::<2>(part);
     LandCommand {
-        position_m: read_vec2(part, 0),
+        position_m: Vec2 { x, y },
     }
 }
 
-#[tactic(auto, unfolding(crate::specs::Read::absolute_rate_command))]
+#[tactic(auto, unfolding(crate::specs::Read::absolute_rate_command, crate::specs::Layout::floats_from))]
 fn read_absolute_rate(part: &[u8]) -> AbsoluteRateCommand
     requires { size (command_layout calls.AbsoluteRate) ≤ length part.now }
     ensures { result ≡ absolute_rate_command part.now }
 {
+    let [roll_radps, pitch_radps, yaw_radps, thrust] = floats::<4>(part);
     AbsoluteRateCommand {
-        roll_radps: read_f32(part, 0),
-        pitch_radps: read_f32(part, 4),
-        yaw_radps: read_f32(part, 8),
-        thrust: read_f32(part, 12),
+        roll_radps,
+        pitch_radps,
+        yaw_radps,
+        thrust,
     }
 }
 
-// A call's command, which a mark that is neither 0 nor 1 refuses.
+// A call's command, which a mark that is neither 0 nor 1 refuses. Each call brings a struct of its own, so
+// a match picks its reader.
 #[tactic(auto, unfolding(crate::specs::Read::command))]
 fn read_command(call: Call, part: &[u8]) -> Result<Command, Refusal>
     requires { size (command_layout call) ≤ length part.now }
@@ -175,7 +172,7 @@ fn read_command(call: Call, part: &[u8]) -> Result<Command, Refusal>
 {
     Ok(match call {
         Call::Attitude => Command::Attitude(read_attitude(part)),
-        Call::Waypoint => return read_waypoint(part),
+        Call::Waypoint => Command::Waypoint(read_waypoint(part)?),
         Call::AbsoluteAttitude => Command::AbsoluteAttitude(read_absolute_attitude(part)),
         Call::Land => Command::Land(read_land(part)),
         Call::AbsoluteRate => Command::AbsoluteRate(read_absolute_rate(part)),
@@ -198,19 +195,13 @@ fn heading_ok(heading_rad: f32) -> bool
     !floats::compare::is_finite(heading_rad) || floats::compare::abs(heading_rad) <= MAX_HEADING_RAD
 }
 
-fn read_fields(body: &[u8]) -> [f32; FIELDS]
-    requires { size (numbers field_count) ≤ length body.now }
-    ensures { result ≡ floats_from 0 field_count body.now }
-{
-    std::array::from_fn(|i| read_f32(body, i * NUMBER))
-}
-
 // A configuration, which the lowest of its fields that breaks its rule refuses.
+#[tactic(auto, using(crate::proofs::Configuration::one_broken, crate::proofs::Configuration::none_broken))]
 pub fn read_configuration(body: &[u8]) -> Result<CopterGuidanceConfig, Refusal>
     requires { size (numbers field_count) ≤ length body.now }
     ensures { result ≡ configuration body.now }
 {
-    let fields = read_fields(body);
+    let fields = floats::<FIELDS>(body);
     match copter::config::lowest_broken(&fields) {
         Some(field) => Err(Refusal::Field(field)),
         None => Ok(CopterGuidanceConfig::from(&fields)),
@@ -230,6 +221,7 @@ fn read_prime(body: &[u8]) -> Result<Input, Refusal>
 }
 
 // The checks of a call are in document 01's order: its marks, its time step, its heading.
+#[tactic(auto, unfolding(crate::specs::Read::call_input), using(crate::proofs::Parts::parted))]
 fn read_call(call: Call, body: &[u8]) -> Result<Input, Refusal>
     requires { size (in_flight_layout (flights.Call call)) ≤ length body.now }
     ensures { result ≡ read (flights.Call call) body.now }
@@ -246,15 +238,14 @@ fn read_call(call: Call, body: &[u8]) -> Result<Input, Refusal>
     Ok(Input::Call(dt, state, command))
 }
 
-// What the body of a kind says. Each reader promises another part, so an enum picks it.
+// What the body of a kind says. Each kind has a layout and a reader of its own.
 #[tactic(auto, unfolding(crate::specs::Read::read))]
-pub fn decode(kind: InFlight, body: &[u8]) -> Result<Input, Refusal>
-    requires { size (in_flight_layout kind) ≤ length body.now }
-    ensures { result ≡ read kind body.now }
+pub fn decode(body: &Body<'_>) -> Result<Input, Refusal>
+    ensures { result ≡ read body.now.0 body.now.1 }
 {
-    match kind {
-        InFlight::Prime => read_prime(body),
-        InFlight::Call(call) => read_call(call, body),
+    match body.kind() {
+        InFlight::Prime => read_prime(body.bytes()),
+        InFlight::Call(call) => read_call(call, body.bytes()),
         InFlight::Rate => Err(Refusal::Rate),
         InFlight::Wind => Ok(Input::Wind),
     }

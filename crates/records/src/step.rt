@@ -22,34 +22,29 @@ pub struct Handled {
     pub written: usize,
 }
 
-// What a record comes to.
+// What a record comes to. It is split here as in a flight's `serve`, which keeps the configuration in place
+// over many records.
 #[tactic(auto, unfolding(crate::specs::Step::judged, crate::specs::Step::craft_after, crate::specs::Step::answer_of))]
 fn handle(craft: Craft, bytes: &[u8]) -> Turned<Craft>
     ensures { result ≡ came craft (judged craft.guidance bytes.now) }
 {
-    let Some(g) = craft.guidance else {
-        return start(craft, bytes);
-    };
-    let Some((byte, rest)) = bytes.split_first() else {
-        return Turned::refused(craft, Refusal::Short, 0);
-    };
-    let Ok(kind) = Kind::try_from(*byte) else {
-        return start(craft, bytes);
-    };
-    let Kind::InFlight(in_flight) = kind else {
-        return start(craft, bytes);
-    };
-    let turned = turn(in_flight, g.config, g.memory, rest);
-    Turned {
-        kept: Craft {
-            guidance: Some(CopterGuidance {
-                config: g.config,
-                memory: turned.kept,
-            }),
-        },
-        answer: turned.answer,
-        taken: turned.taken,
+    if let Some(g) = craft.guidance
+        && let Some((byte, rest)) = bytes.split_first()
+        && let Ok(Kind::InFlight(in_flight)) = Kind::try_from(*byte)
+    {
+        let turned = turn(in_flight, g.config, g.memory, rest);
+        return Turned {
+            kept: Craft {
+                guidance: Some(CopterGuidance {
+                    config: g.config,
+                    memory: turned.kept,
+                }),
+            },
+            answer: turned.answer,
+            taken: turned.taken,
+        };
     }
+    start(craft, bytes)
 }
 
 // Handles one record: the bytes from its kind on, and the buffer that its answer is lent.

@@ -1,13 +1,14 @@
 // A record decoded and performed. Its answer is not written here.
-ghost use Rattle.std.specs.Prelude.{◌≡◌, ◌≤◌, false, length, Some};
+ghost use Rattle.std.specs.Prelude.{◌≡◌, ◌+◌, false, length, Some};
 ghost use Rattle.records.specs.declared.kinds.Kind.TheVariants as kinds;
-ghost use Rattle.records.specs.Layout.{byte_at, size};
-ghost use Rattle.records.specs.Kinds.{kind_of, in_flight_layout};
+ghost use Rattle.records.specs.Layout.{byte_at};
+ghost use Rattle.records.specs.Kinds.{kind_of};
 ghost use Rattle.records.specs.Read.{read};
 ghost use Rattle.records.specs.Step.{setpoint_answer, wind_answer, perform, told, configure, with_body, judged};
 ghost use Rattle.records.specs.Inner.{guidance_of, craft_of, judged_as, refused, came, in_craft, serves};
 
 use crate::answer::{Answer, Refusal};
+use crate::body::Body;
 use crate::craft::Craft;
 use crate::kinds::{InFlight, Kind};
 use crate::read::{Input, decode, read_configuration};
@@ -43,7 +44,7 @@ impl<T> Turned<T> {
     }
 }
 
-// A call's setpoint, with its flags.
+// A call's setpoint, with its flags. Document 01 has an answer for each kind of setpoint.
 #[tactic(auto, unfolding(crate::specs::Step::setpoint_answer))]
 fn setpoint_answer(setpoint: Setpoint, flags: Flags) -> Answer
     ensures { result ≡ setpoint_answer setpoint flags }
@@ -54,14 +55,12 @@ fn setpoint_answer(setpoint: Setpoint, flags: Flags) -> Answer
     }
 }
 
+// A function, since its name says what is answered.
 #[tactic(auto, unfolding(crate::specs::Step::wind_answer))]
 fn wind_answer(reading: Option<WindEstimate>) -> Answer
     ensures { result ≡ wind_answer reading }
 {
-    match reading {
-        Some(estimate) => Answer::Wind(estimate),
-        None => Answer::NoWind,
-    }
+    reading.map_or(Answer::NoWind, Answer::Wind)
 }
 
 // An input on a configured craft, which never refuses.
@@ -93,17 +92,11 @@ fn perform(g: CopterGuidance, input: Input) -> Performed
 
 // What the body of a kind in flight tells a configured craft.
 #[tactic(auto, unfolding(crate::specs::Step::told, crate::specs::Step::craft_after, crate::specs::Step::answer_of))]
-fn told(
-    kind: InFlight,
-    config: CopterGuidanceConfig,
-    memory: Memory,
-    body: &[u8],
-    taken: usize,
-) -> Turned<Memory>
-    requires { size (in_flight_layout kind) ≤ length body.now }
-    ensures { in_craft config result ≡ came (craft_of config memory) (judged_as (told (Some (guidance_of config memory)) (read kind body.now)) taken) }
+fn told(config: CopterGuidanceConfig, memory: Memory, body: &Body<'_>) -> Turned<Memory>
+    ensures { in_craft config result ≡ came (craft_of config memory) (judged_as (told (Some (guidance_of config memory)) (read body.now.0 body.now.1)) (length body.now.1 + 1)) }
 {
-    match decode(kind, body) {
+    let taken = body.bytes().len() + 1;
+    match decode(body) {
         Err(refusal) => Turned::refused(memory, refusal, taken),
         Ok(input) => {
             let performed = perform(CopterGuidance { config, memory }, input);
@@ -116,8 +109,9 @@ fn told(
     }
 }
 
-// A record of a kind in flight on a configured craft, from the bytes after its kind.
-#[tactic(auto, unfolding(crate::specs::Step::serve, crate::specs::Step::craft_after, crate::specs::Step::answer_of, crate::specs::Kinds::body_length))]
+// A record of a kind in flight on a configured craft, from the bytes after its kind. The two parts of the
+// craft are apart, so that a flight keeps its one configuration in place and only the memory goes round.
+#[tactic(auto, unfolding(crate::specs::Step::serve, crate::specs::Step::craft_after, crate::specs::Step::answer_of, crate::specs::Body::whole_body))]
 pub fn turn(
     kind: InFlight,
     config: CopterGuidanceConfig,
@@ -126,11 +120,10 @@ pub fn turn(
 ) -> Turned<Memory>
     ensures { in_craft config result ≡ came (craft_of config memory) (with_body (Some (kinds.InFlight kind)) (Some (guidance_of config memory)) rest.now) }
 {
-    let needed = Kind::InFlight(kind).body_length();
-    let Some(body) = rest.get(..needed) else {
+    let Some(body) = Body::of(kind, rest) else {
         return Turned::refused(memory, Refusal::Short, 0);
     };
-    told(kind, config, memory, body, needed + 1)
+    told(config, memory, &body)
 }
 
 // What a configure's body says, done.
@@ -172,6 +165,7 @@ pub fn start(craft: Craft, bytes: &[u8]) -> Turned<Craft>
     let Some(body) = rest.get(..needed) else {
         return Turned::refused(craft, Refusal::Short, 0);
     };
+    // A configure says something, and any other kind nothing yet: an enum of two tells them apart.
     match kind {
         Kind::Configure => configure(craft, read_configuration(body), needed + 1),
         Kind::InFlight(_) => Turned::refused(craft, Refusal::NotConfigured, needed + 1),

@@ -1,13 +1,14 @@
 // The divider, the derivative's history, altitude control and lateral control, numbered from 40. Each
 // keeps its memory from call to call.
-use crate::block::{Answers, NO_RESULT};
+use crate::block::Replay;
 use crate::entry::{Entry, Taken};
+use crate::layer::{Call, Layer, NoResult};
 use altitude::{AltitudeController, AltitudeControllerConfig, AltitudeEstimate, AltitudeTarget};
+use controllers::checks;
 use controllers::derivative::{DerivativeState, DerivativeStep};
 use controllers::rate_divider::{Paced, RateDivider};
 use lateral::{LateralController, LateralControllerConfig, LateralEstimate, LateralTarget};
 use math::vectors::Vec2;
-use words::Words;
 
 #[derive(Clone, Copy)]
 pub enum Controller {
@@ -17,178 +18,148 @@ pub enum Controller {
     Lateral,
 }
 
-#[derive(Clone, Copy)]
-pub struct Memory {
-    divider: RateDivider,
-    history: DerivativeState,
-    altitude: AltitudeController,
-    lateral: LateralController,
+impl Layer for Controller {
+    const ALL: &'static [Controller] = &[
+        Controller::RateDivider,
+        Controller::Derivative,
+        Controller::Altitude,
+        Controller::Lateral,
+    ];
+
+    // Each is another function, of other words.
+    fn answer(self, kept: &mut Replay, call: Call<'_>) -> Option<usize> {
+        match self {
+            Controller::RateDivider => call.answer(|args| rate_divider(&mut kept.divider, args)),
+            Controller::Derivative => call.answer(|args| derivative(&mut kept.history, args)),
+            Controller::Altitude => call.answer(|args| altitude_control(&mut kept.altitude, args)),
+            Controller::Lateral => call.answer(|args| lateral_control(&mut kept.lateral, args)),
+        }
+    }
 }
 
-impl Controller {
-    pub fn of(number: u8) -> Option<Controller> {
-        Some(match number {
-            40 => Controller::RateDivider,
-            41 => Controller::Derivative,
-            42 => Controller::Altitude,
-            43 => Controller::Lateral,
-            _ => return None,
+#[derive(Clone, Copy)]
+enum Pacing {
+    Due,
+    Ran,
+    Reset,
+}
+
+// The operations of a function have names of their own, and so a match, here and below.
+impl Taken for Pacing {
+    fn taken(entry: &mut Entry<'_>) -> Option<Pacing> {
+        let operation: u32 = entry.take()?;
+        Some(match operation {
+            0 => Pacing::Due,
+            1 => Pacing::Ran,
+            _ => Pacing::Reset,
         })
     }
-
-    pub fn words(self) -> u8 {
-        match self {
-            Controller::RateDivider => 3,
-            Controller::Derivative => 4,
-            Controller::Altitude => 16,
-            Controller::Lateral => 21,
-        }
-    }
 }
 
-impl Memory {
-    pub fn new() -> Memory {
-        Memory {
-            divider: RateDivider::reset(),
-            history: DerivativeState::forget(),
-            altitude: AltitudeController::new(),
-            lateral: LateralController::new(),
-        }
-    }
-
-    pub fn answer(&mut self, function: Controller, entry: &mut Entry<'_>, out: &mut Answers) {
-        match function {
-            Controller::RateDivider => rate_divider(&mut self.divider, entry, out),
-            Controller::Derivative => derivative(&mut self.history, entry, out),
-            Controller::Altitude => altitude_control(&mut self.altitude, entry, out),
-            Controller::Lateral => lateral_control(&mut self.lateral, entry, out),
-        }
-    }
-}
-
-// Operation 0 is due, 1 is ran, 2 is reset.
-fn rate_divider(memory: &mut RateDivider, entry: &mut Entry<'_>, out: &mut Answers) {
-    let (operation, dt, period): (u32, f32, f32) = entry.take();
+fn rate_divider(
+    memory: &mut RateDivider,
+    (operation, dt, period): (Pacing, f32, f32),
+) -> (Option<f32>, Option<f32>) {
+    // Each operation is another method.
     let paced = match operation {
-        0 => memory.due(dt, period),
-        1 => idle(RateDivider::ran()),
-        _ => idle(RateDivider::reset()),
+        Pacing::Due => memory.due(dt, period),
+        Pacing::Ran => idle(RateDivider::ran()),
+        Pacing::Reset => idle(RateDivider::reset()),
     };
     *memory = paced.divider;
-    (paced.due, paced.divider.elapsed_s).put(out);
+    (paced.due, paced.divider.elapsed_s)
 }
 
 fn idle(divider: RateDivider) -> Paced {
     Paced { divider, due: None }
 }
 
-// Operation 0 is step; 1 is forget and 2 is fresh, which are the same.
-fn derivative(memory: &mut DerivativeState, entry: &mut Entry<'_>, out: &mut Answers) {
-    let (operation, error, dt): (u32, Vec2, f32) = entry.take();
+#[derive(Clone, Copy)]
+enum Differencing {
+    Step,
+    Forget,
+}
+
+// 1 is forget and 2 is fresh, which are the same.
+impl Taken for Differencing {
+    fn taken(entry: &mut Entry<'_>) -> Option<Differencing> {
+        let operation: u32 = entry.take()?;
+        Some(match operation {
+            0 => Differencing::Step,
+            _ => Differencing::Forget,
+        })
+    }
+}
+
+fn derivative(
+    memory: &mut DerivativeState,
+    (operation, error, dt): (Differencing, Vec2, f32),
+) -> (Vec2, Option<Vec2>) {
+    // Each operation is another method.
     let stepped = match operation {
-        0 => memory.step(error, dt),
-        _ => DerivativeStep {
+        Differencing::Step => memory.step(error, dt),
+        Differencing::Forget => DerivativeStep {
             state: DerivativeState::forget(),
+            // The oracle writes zeros.
             derivative: Vec2::zeros(),
         },
     };
     *memory = stepped.state;
-    (stepped.derivative, stepped.state.previous_error).put(out);
+    (stepped.derivative, stepped.state.previous_error)
 }
 
-// The integral comes out in every call. The Rust panics unless the time step is positive and finite.
-fn altitude_control(memory: &mut AltitudeController, entry: &mut Entry<'_>, out: &mut Answers) {
-    let (afresh, config, dt) = entry.take();
-    let (target, estimate) = entry.take();
+// Calls a controller, afresh where asked, and keeps its memory. The Rust panics unless the time step is
+// positive and finite.
+fn controlled<C: Copy + Default, R, F: FnOnce(C) -> (C, R) + Drop>(
+    memory: &mut C,
+    afresh: bool,
+    dt: f32,
+    control: F,
+) -> Result<R, NoResult>
+    requires { F.IsAlwaysCallable control }
+{
     if afresh {
-        *memory = AltitudeController::new();
+        *memory = C::default();
     }
-    if controllers::checks::check_positive(dt) {
-        let call = memory.control(config, dt, target, estimate);
-        *memory = call.controller;
-        call.thrust.put(out);
-    } else {
-        NO_RESULT.put(out);
+    if !checks::check_positive(dt) {
+        return Err(NoResult);
     }
-    memory.integrated_error.put(out);
+    let (after, answer) = control(*memory);
+    *memory = after;
+    Ok(answer)
 }
 
-// The controller's memory comes out in every call. The Rust panics unless the time step is positive
-// and finite.
-fn lateral_control(memory: &mut LateralController, entry: &mut Entry<'_>, out: &mut Answers) {
-    let (afresh, config, dt) = entry.take();
-    let (target, estimate, accel_mps2) = entry.take();
-    if afresh {
-        *memory = LateralController::new();
-    }
-    if controllers::checks::check_positive(dt) {
-        let call = memory.control(config, dt, target, estimate, accel_mps2);
-        *memory = call.controller;
-        call.accel_mps2.put(out);
-    } else {
-        (NO_RESULT, NO_RESULT).put(out);
-    }
-    memory.put(out);
+// Tuples of words end at four, so they stand in groups, here and below.
+type AltitudeWords = (
+    (bool, AltitudeControllerConfig, f32),
+    (AltitudeTarget, AltitudeEstimate),
+);
+
+// The integral comes out in every call.
+fn altitude_control(
+    memory: &mut AltitudeController,
+    ((afresh, config, dt), (target, estimate)): AltitudeWords,
+) -> (Result<f32, NoResult>, f32) {
+    let thrust = controlled(memory, afresh, dt, |controller| {
+        let call = controller.control(config, dt, target, estimate);
+        (call.controller, call.thrust)
+    });
+    (thrust, memory.integrated_error)
 }
 
-impl Taken for AltitudeControllerConfig {
-    fn taken(entry: &mut Entry<'_>) -> AltitudeControllerConfig {
-        AltitudeControllerConfig {
-            gains: entry.take(),
-            max_integral: entry.take(),
-            hover_thrust: entry.take(),
-            integration_band_m: entry.take(),
-        }
-    }
-}
+type LateralWords = (
+    (bool, LateralControllerConfig, f32),
+    (LateralTarget, LateralEstimate, Vec2),
+);
 
-impl Taken for AltitudeTarget {
-    fn taken(entry: &mut Entry<'_>) -> AltitudeTarget {
-        AltitudeTarget {
-            altitude_m: entry.take(),
-            velocity_mps: entry.take(),
-        }
-    }
-}
-
-impl Taken for AltitudeEstimate {
-    fn taken(entry: &mut Entry<'_>) -> AltitudeEstimate {
-        AltitudeEstimate {
-            altitude_m: entry.take(),
-            velocity_mps: entry.take(),
-            attitude: entry.take(),
-        }
-    }
-}
-
-impl Taken for LateralControllerConfig {
-    fn taken(entry: &mut Entry<'_>) -> LateralControllerConfig {
-        LateralControllerConfig {
-            position_p: entry.take(),
-            velocity: entry.take(),
-            max_integral: entry.take(),
-            max_accel_mps2: entry.take(),
-            brake_mps2: entry.take(),
-            braking_share: entry.take(),
-        }
-    }
-}
-
-impl Taken for LateralTarget {
-    fn taken(entry: &mut Entry<'_>) -> LateralTarget {
-        LateralTarget {
-            position_m: entry.take(),
-            velocity_mps: entry.take(),
-            max_speed_mps: entry.take(),
-        }
-    }
-}
-
-impl Taken for LateralEstimate {
-    fn taken(entry: &mut Entry<'_>) -> LateralEstimate {
-        LateralEstimate {
-            position_m: entry.take(),
-            velocity_mps: entry.take(),
-        }
-    }
+// The memory comes out in every call.
+fn lateral_control(
+    memory: &mut LateralController,
+    ((afresh, config, dt), (target, estimate, limit_mps2)): LateralWords,
+) -> (Result<Vec2, (NoResult, NoResult)>, LateralController) {
+    let accel_mps2 = controlled(memory, afresh, dt, |controller| {
+        let call = controller.control(config, dt, target, estimate, limit_mps2);
+        (call.controller, call.accel_mps2)
+    });
+    (accel_mps2.map_err(|none| (none, none)), *memory)
 }

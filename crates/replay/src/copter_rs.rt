@@ -1,8 +1,9 @@
 // The functions of copter.rs that keep no memory, numbered from 100.
-use crate::block::Answers;
-use crate::entry::Entry;
+use crate::block::Replay;
+use crate::layer::{Call, Layer};
 use crate::wind_rs::Drag;
-use words::Words;
+use copter::tilt;
+use math::vectors::Vec2;
 
 #[derive(Clone, Copy)]
 pub enum Tilt {
@@ -10,40 +11,25 @@ pub enum Tilt {
     DragFeedforward,
 }
 
-impl Tilt {
-    pub fn of(number: u8) -> Option<Tilt> {
-        Some(match number {
-            100 => Tilt::ForAcceleration,
-            101 => Tilt::DragFeedforward,
-            _ => return None,
-        })
-    }
+impl Layer for Tilt {
+    const ALL: &'static [Tilt] = &[Tilt::ForAcceleration, Tilt::DragFeedforward];
 
-    pub fn words(self) -> u8 {
+    // Each is another function, of other words.
+    fn answer(self, _kept: &mut Replay, call: Call<'_>) -> Option<usize> {
         match self {
-            Tilt::ForAcceleration => 3,
-            Tilt::DragFeedforward => 10,
+            Tilt::ForAcceleration => call.answer(|(accel_mps2, heading_rad)| {
+                tilt::tilt_for_acceleration(accel_mps2, heading_rad)
+            }),
+            Tilt::DragFeedforward => call.answer(drag_feedforward_mps2),
         }
     }
+}
 
-    pub fn answer(self, entry: &mut Entry<'_>, out: &mut Answers) {
-        match self {
-            Tilt::ForAcceleration => {
-                let (accel_mps2, heading_rad) = entry.take();
-                copter::tilt::tilt_for_acceleration(accel_mps2, heading_rad).put(out);
-            }
-            Tilt::DragFeedforward => {
-                let (config, hold_band_mps): (Drag, f32) = entry.take();
-                let (commanded_mps, wind_mps, heading_rad) = entry.take();
-                copter::tilt::drag_feedforward_mps2(
-                    config.0,
-                    hold_band_mps,
-                    commanded_mps,
-                    wind_mps,
-                    heading_rad,
-                )
-                .put(out);
-            }
-        }
-    }
+// Tuples of words end at four, so they stand in groups.
+type FeedforwardWords = ((Drag, f32), (Vec2, Vec2, f32));
+
+fn drag_feedforward_mps2(
+    ((drag, hold_band_mps), (commanded_mps, wind_mps, heading_rad)): FeedforwardWords,
+) -> Vec2 {
+    tilt::drag_feedforward_mps2(drag.0, hold_band_mps, commanded_mps, wind_mps, heading_rad)
 }

@@ -1,149 +1,212 @@
 // The words of an entry, taken one after another: 32 bits each, low byte first, either the bits of a
 // float or a whole number.
-use controllers::Gains;
+ghost use Rattle.std.specs.Prelude.{◌≤◌, length};
+
+use altitude::{AltitudeControllerConfig, AltitudeEstimate, AltitudeTarget};
 use heading::HeadingConfig;
+use lateral::{LateralControllerConfig, LateralEstimate, LateralTarget};
 use math::vectors::{Quaternion, Vec2, Vec3};
+use wind::drag::WindConfig;
 use wind::estimate::{Matrix2, WindEstimate};
 use wind::state::VehicleState;
 
-// The bytes of the words that are left. Past them every word is 0.
+// The bytes of the words that are left.
 #[derive(Drop)]
 pub struct Entry<'a> {
     pub left: &'a [u8],
 }
 
 impl Entry<'_> {
-    pub fn take<T: Taken>(&mut self) -> T {
+    // None where the entry is cut.
+    pub fn take<T: Taken>(&mut self) -> Option<T>
+        ensures { length self.new.left.now ≤ length self.old.left.now }
+    {
         T::taken(self)
+    }
+
+    fn bytes<const N: usize>(&mut self) -> Option<[u8; N]>
+        ensures { length self.new.left.now ≤ length self.old.left.now }
+    {
+        let (bytes, left) = self.left.split_first_chunk::<N>()?;
+        self.left = left;
+        Some(*bytes)
     }
 }
 
-pub trait Taken: Sized {
-    fn taken(entry: &mut Entry<'_>) -> Self;
+// What words are taken for. `Entry::bytes` gives what is promised here, and `Entry::take` hands it on.
+pub trait Taken: Copy {
+    fn taken(entry: &mut Entry<'_>) -> Option<Self>
+        ensures { length entry.new.left.now ≤ length entry.old.left.now };
 }
 
 impl Taken for u32 {
-    fn taken(entry: &mut Entry<'_>) -> u32 {
-        let Some((word, left)) = entry.left.split_first_chunk::<4>() else {
-            return 0;
-        };
-        entry.left = left;
-        u32::from_le_bytes(*word)
+    fn taken(entry: &mut Entry<'_>) -> Option<u32> {
+        entry.bytes().map(u32::from_le_bytes)
     }
 }
 
 impl Taken for bool {
-    fn taken(entry: &mut Entry<'_>) -> bool {
-        let word: u32 = entry.take();
-        word != 0
+    fn taken(entry: &mut Entry<'_>) -> Option<bool> {
+        let word: u32 = entry.take()?;
+        Some(word != 0)
     }
 }
 
+// Every NaN pattern gives a NaN, here and of two words.
 impl Taken for f32 {
-    fn taken(entry: &mut Entry<'_>) -> f32 {
-        floats::bits::from_bits(entry.take())
+    fn taken(entry: &mut Entry<'_>) -> Option<f32> {
+        entry.take().map(floats::bits::from_bits)
     }
 }
 
+// The low word first.
+impl Taken for f64 {
+    fn taken(entry: &mut Entry<'_>) -> Option<f64> {
+        let bits = u64::from_le_bytes(entry.bytes()?);
+        Some(std::num::f64_from_bits_with_nan(bits))
+    }
+}
+
+impl<const N: usize> Taken for [f32; N] {
+    fn taken(entry: &mut Entry<'_>) -> Option<[f32; N]> {
+        let mut floats = [0.0; N];
+        for float in &mut floats {
+            *float = entry.take()?;
+        }
+        Some(floats)
+    }
+}
+
+// One impl for each length: impls are not written by macros here.
 impl<A: Taken, B: Taken> Taken for (A, B) {
-    fn taken(entry: &mut Entry<'_>) -> (A, B) {
-        (entry.take(), entry.take())
+    fn taken(entry: &mut Entry<'_>) -> Option<(A, B)> {
+        Some((entry.take()?, entry.take()?))
     }
 }
 
 impl<A: Taken, B: Taken, C: Taken> Taken for (A, B, C) {
-    fn taken(entry: &mut Entry<'_>) -> (A, B, C) {
-        (entry.take(), entry.take(), entry.take())
+    fn taken(entry: &mut Entry<'_>) -> Option<(A, B, C)> {
+        Some((entry.take()?, entry.take()?, entry.take()?))
     }
 }
 
 impl<A: Taken, B: Taken, C: Taken, D: Taken> Taken for (A, B, C, D) {
-    fn taken(entry: &mut Entry<'_>) -> (A, B, C, D) {
-        (entry.take(), entry.take(), entry.take(), entry.take())
-    }
-}
-
-impl Taken for Vec2 {
-    fn taken(entry: &mut Entry<'_>) -> Vec2 {
-        let (x, y) = entry.take();
-        Vec2 { x, y }
-    }
-}
-
-impl Taken for Vec3 {
-    fn taken(entry: &mut Entry<'_>) -> Vec3 {
-        let (x, y, z) = entry.take();
-        Vec3 { x, y, z }
-    }
-}
-
-impl Taken for Quaternion {
-    fn taken(entry: &mut Entry<'_>) -> Quaternion {
-        let (w, i, j, k) = entry.take();
-        Quaternion { w, i, j, k }
-    }
-}
-
-impl Taken for Matrix2 {
-    fn taken(entry: &mut Entry<'_>) -> Matrix2 {
-        let (m00, m01, m10, m11) = entry.take();
-        Matrix2 { m00, m01, m10, m11 }
-    }
-}
-
-impl Taken for Gains {
-    fn taken(entry: &mut Entry<'_>) -> Gains {
-        let (p, i, d) = entry.take();
-        Gains { p, i, d }
-    }
-}
-
-impl Taken for WindEstimate {
-    fn taken(entry: &mut Entry<'_>) -> WindEstimate {
-        let (velocity_mps, covariance_m2ps2) = entry.take();
-        WindEstimate {
-            velocity_mps,
-            covariance_m2ps2,
-        }
+    fn taken(entry: &mut Entry<'_>) -> Option<(A, B, C, D)> {
+        Some((entry.take()?, entry.take()?, entry.take()?, entry.take()?))
     }
 }
 
 // A flag and the value, which is there whatever the flag.
-impl<T: Taken + Copy> Taken for Option<T> {
-    fn taken(entry: &mut Entry<'_>) -> Option<T> {
-        let (known, value) = entry.take();
-        if known { Some(value) } else { None }
+impl<T: Taken> Taken for Option<T> {
+    fn taken(entry: &mut Entry<'_>) -> Option<Option<T>> {
+        let (known, value): (bool, T) = entry.take()?;
+        Some(known.then_some(value))
     }
 }
 
+// A type's fields in turn. Each names its own.
+impl Taken for Vec2 {
+    fn taken(entry: &mut Entry<'_>) -> Option<Vec2> {
+        let (x, y) = entry.take()?;
+        Some(Vec2 { x, y })
+    }
+}
+
+impl Taken for Vec3 {
+    fn taken(entry: &mut Entry<'_>) -> Option<Vec3> {
+        let (x, y, z) = entry.take()?;
+        Some(Vec3 { x, y, z })
+    }
+}
+
+impl Taken for Quaternion {
+    fn taken(entry: &mut Entry<'_>) -> Option<Quaternion> {
+        let (w, i, j, k) = entry.take()?;
+        Some(Quaternion { w, i, j, k })
+    }
+}
+
+impl Taken for Matrix2 {
+    fn taken(entry: &mut Entry<'_>) -> Option<Matrix2> {
+        let (m00, m01, m10, m11) = entry.take()?;
+        Some(Matrix2 { m00, m01, m10, m11 })
+    }
+}
+
+impl Taken for WindEstimate {
+    fn taken(entry: &mut Entry<'_>) -> Option<WindEstimate> {
+        Some(WindEstimate {
+            velocity_mps: entry.take()?,
+            covariance_m2ps2: entry.take()?,
+        })
+    }
+}
+
+impl Taken for AltitudeTarget {
+    fn taken(entry: &mut Entry<'_>) -> Option<AltitudeTarget> {
+        Some(AltitudeTarget {
+            altitude_m: entry.take()?,
+            velocity_mps: entry.take()?,
+        })
+    }
+}
+
+impl Taken for AltitudeEstimate {
+    fn taken(entry: &mut Entry<'_>) -> Option<AltitudeEstimate> {
+        Some(AltitudeEstimate {
+            altitude_m: entry.take()?,
+            velocity_mps: entry.take()?,
+            attitude: entry.take()?,
+        })
+    }
+}
+
+impl Taken for LateralTarget {
+    fn taken(entry: &mut Entry<'_>) -> Option<LateralTarget> {
+        Some(LateralTarget {
+            position_m: entry.take()?,
+            velocity_mps: entry.take()?,
+            max_speed_mps: entry.take()?,
+        })
+    }
+}
+
+impl Taken for LateralEstimate {
+    fn taken(entry: &mut Entry<'_>) -> Option<LateralEstimate> {
+        Some(LateralEstimate {
+            position_m: entry.take()?,
+            velocity_mps: entry.take()?,
+        })
+    }
+}
+
+// From so many numbers as the type has; one impl for all would leave the count open.
 impl Taken for VehicleState {
-    fn taken(entry: &mut Entry<'_>) -> VehicleState {
-        let (position_m, velocity_mps, acceleration_mps2) = entry.take();
-        let (attitude, angular_velocity_z_radps, heading_rad) = entry.take();
-        VehicleState {
-            position_m,
-            velocity_mps,
-            acceleration_mps2,
-            attitude,
-            angular_velocity_z_radps,
-            heading_rad,
-        }
+    fn taken(entry: &mut Entry<'_>) -> Option<VehicleState> {
+        entry.take::<[f32; 15]>().map(VehicleState::from)
+    }
+}
+
+impl Taken for AltitudeControllerConfig {
+    fn taken(entry: &mut Entry<'_>) -> Option<AltitudeControllerConfig> {
+        entry.take::<[f32; 6]>().map(AltitudeControllerConfig::from)
+    }
+}
+
+impl Taken for LateralControllerConfig {
+    fn taken(entry: &mut Entry<'_>) -> Option<LateralControllerConfig> {
+        entry.take::<[f32; 8]>().map(LateralControllerConfig::from)
+    }
+}
+
+impl Taken for WindConfig {
+    fn taken(entry: &mut Entry<'_>) -> Option<WindConfig> {
+        entry.take::<[f32; 9]>().map(WindConfig::from)
     }
 }
 
 impl Taken for HeadingConfig {
-    fn taken(entry: &mut Entry<'_>) -> HeadingConfig {
-        HeadingConfig {
-            waypoint_yaw_radps: entry.take(),
-            heading_rate_radps: entry.take(),
-            waypoint_yaw_min_leg_m: entry.take(),
-            heading_yield_rad: entry.take(),
-            heading_yield_rate_radps: entry.take(),
-            heading_yield_s: entry.take(),
-            wind_heading_min_mps: entry.take(),
-            wind_heading_from_wind_rad: entry.take(),
-            wind_heading_max_sd_rad: entry.take(),
-            wind_heading_deadband_rad: entry.take(),
-        }
+    fn taken(entry: &mut Entry<'_>) -> Option<HeadingConfig> {
+        entry.take::<[f32; 10]>().map(HeadingConfig::from)
     }
 }

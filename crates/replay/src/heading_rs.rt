@@ -1,11 +1,14 @@
 // The wingtip heading and the heading along a leg, numbered from 80. Each keeps its memory from call to
 // call.
-use crate::block::Answers;
-use crate::entry::Entry;
+use crate::block::Replay;
+use crate::entry::{Entry, Taken};
+use crate::layer::{Call, Layer};
 use heading::HeadingConfig;
 use heading::leg_heading::{HeadingCall, LegHeading, Turn};
 use heading::wind_heading::WindHeading;
-use words::Words;
+use math::vectors::Vec2;
+use wind::estimate::WindEstimate;
+use wind::state::VehicleState;
 
 #[derive(Clone, Copy)]
 pub enum Heading {
@@ -13,73 +16,78 @@ pub enum Heading {
     Leg,
 }
 
-#[derive(Clone, Copy)]
-pub struct Memory {
-    wind: WindHeading,
-    leg: LegHeading,
-}
+impl Layer for Heading {
+    const ALL: &'static [Heading] = &[Heading::Wind, Heading::Leg];
 
-impl Heading {
-    pub fn of(number: u8) -> Option<Heading> {
-        Some(match number {
-            80 => Heading::Wind,
-            81 => Heading::Leg,
-            _ => return None,
-        })
-    }
-
-    pub fn words(self) -> u8 {
+    // Each is another function, of other words.
+    fn answer(self, kept: &mut Replay, call: Call<'_>) -> Option<usize> {
         match self {
-            Heading::Wind => 13,
-            Heading::Leg => 39,
+            Heading::Wind => call.answer(|args| wind_heading(&mut kept.wind_heading, args)),
+            Heading::Leg => call.answer(|args| leg_heading(&mut kept.leg_heading, args)),
         }
     }
 }
 
-impl Memory {
-    pub fn new() -> Memory {
-        Memory {
-            wind: WindHeading::new(),
-            leg: LegHeading::new(),
-        }
-    }
+// A configuration of the wind heading alone.
+#[derive(Clone, Copy)]
+struct WindPart(HeadingConfig);
 
-    pub fn answer(&mut self, function: Heading, entry: &mut Entry<'_>, out: &mut Answers) {
-        match function {
-            Heading::Wind => wind_heading(&mut self.wind, entry, out),
-            Heading::Leg => leg_heading(&mut self.leg, entry, out),
-        }
+impl Taken for WindPart {
+    fn taken(entry: &mut Entry<'_>) -> Option<WindPart> {
+        Some(WindPart(HeadingConfig {
+            wind_heading_min_mps: entry.take()?,
+            wind_heading_from_wind_rad: entry.take()?,
+            wind_heading_max_sd_rad: entry.take()?,
+            wind_heading_deadband_rad: entry.take()?,
+            ..HeadingConfig::from([0.0; 10])
+        }))
     }
 }
 
-fn wind_heading(memory: &mut WindHeading, entry: &mut Entry<'_>, out: &mut Answers) {
-    let afresh: bool = entry.take();
-    let config = HeadingConfig {
-        waypoint_yaw_radps: 0.0,
-        heading_rate_radps: 0.0,
-        waypoint_yaw_min_leg_m: 0.0,
-        heading_yield_rad: 0.0,
-        heading_yield_rate_radps: 0.0,
-        heading_yield_s: 0.0,
-        wind_heading_min_mps: entry.take(),
-        wind_heading_from_wind_rad: entry.take(),
-        wind_heading_max_sd_rad: entry.take(),
-        wind_heading_deadband_rad: entry.take(),
-    };
-    let (estimate, heading_rad) = entry.take();
+fn wind_heading(
+    memory: &mut WindHeading,
+    (afresh, config, estimate, heading_rad): (bool, WindPart, Option<WindEstimate>, f32),
+) -> (Option<f32>, WindHeading) {
     if afresh {
         *memory = WindHeading::new();
     }
-    let turn = memory.target_rad(config, estimate, heading_rad);
+    let turn = memory.target_rad(config.0, estimate, heading_rad);
     *memory = turn.wind;
-    (turn.target_rad, turn.wind).put(out);
+    (turn.target_rad, turn.wind)
 }
 
-// Operation 0 is a waypoint call, 1 a land call, 2 is clear, 3 is reset.
-fn leg_heading(memory: &mut LegHeading, entry: &mut Entry<'_>, out: &mut Answers) {
-    let (operation, config, dt): (u32, HeadingConfig, f32) = entry.take();
-    let (target_rad, position_m, commanded) = entry.take();
-    let (estimate, state) = entry.take();
+#[derive(Clone, Copy)]
+enum Turning {
+    Waypoint,
+    Land,
+    Clear,
+    Reset,
+}
+
+// The operations have names of their own, and so a match.
+impl Taken for Turning {
+    fn taken(entry: &mut Entry<'_>) -> Option<Turning> {
+        let operation: u32 = entry.take()?;
+        Some(match operation {
+            0 => Turning::Waypoint,
+            1 => Turning::Land,
+            2 => Turning::Clear,
+            _ => Turning::Reset,
+        })
+    }
+}
+
+// Tuples of words end at four, so they stand in groups.
+type LegWords = (
+    (Turning, HeadingConfig, f32),
+    (f32, Vec2, Option<f32>),
+    (Option<WindEstimate>, VehicleState),
+);
+
+fn leg_heading(
+    memory: &mut LegHeading,
+    ((operation, config, dt), (target_rad, position_m, commanded), (estimate, state)): LegWords,
+) -> (f32, LegHeading) {
     let call = HeadingCall {
         dt,
         config,
@@ -87,16 +95,18 @@ fn leg_heading(memory: &mut LegHeading, entry: &mut Entry<'_>, out: &mut Answers
         estimate,
         state,
     };
+    // Each operation is another method.
     let turn = match operation {
-        0 => memory.target_rad(call, position_m, commanded),
-        1 => memory.land_target_rad(call),
-        2 => no_turn(memory.clear()),
-        _ => no_turn(LegHeading::new()),
+        Turning::Waypoint => memory.target_rad(call, position_m, commanded),
+        Turning::Land => memory.land_target_rad(call),
+        Turning::Clear => no_turn(memory.clear()),
+        Turning::Reset => no_turn(LegHeading::new()),
     };
     *memory = turn.memory;
-    (turn.heading_rad, turn.memory).put(out);
+    (turn.heading_rad, turn.memory)
 }
 
+// The oracle writes a zero.
 fn no_turn(memory: LegHeading) -> Turn {
     Turn {
         memory,

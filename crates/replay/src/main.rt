@@ -8,17 +8,20 @@ mod controllers_rs;
 mod copter_rs;
 mod entry;
 mod heading_rs;
+mod layer;
 mod leaves;
 mod math_rs;
 mod wind_rs;
 
-use block::{BUFFER, Replay};
-use buffers::{Buffer, Reading};
+use block::Replay;
+use buffers::{BUFFER, Buffer, Reading};
 
 fn main(rt: HostRuntime) {
-    let mut reader = rt.reader();
-    let mut writer = rt.stdout();
-    let mut replay = Replay::new();
-    let mut input: Buffer<BUFFER> = Buffer::new();
-    input.run(&mut replay, Reading::Full, &mut reader, &mut writer);
+    let mut replay = Replay::default();
+    Buffer::<BUFFER>::new().run(
+        &mut replay,
+        Reading::Full,
+        &mut rt.reader(),
+        &mut rt.stdout(),
+    );
 }

@@ -1,12 +1,13 @@
 // The drag, the wind estimate and the wind memory, numbered from 60. The memory is kept from call to
 // call.
-use crate::block::Answers;
+use crate::block::Replay;
 use crate::entry::{Entry, Taken};
+use crate::layer::{Call, Layer};
 use heading::hover_wind::HoverWind;
 use math::vectors::Vec2;
 use wind::drag::WindConfig;
-use wind::estimate::WindEstimate;
-use words::Words;
+use wind::estimate::{Matrix2, WindEstimate};
+use wind::state::VehicleState;
 
 #[derive(Clone, Copy)]
 pub enum Wind {
@@ -15,52 +16,64 @@ pub enum Wind {
     Hover,
 }
 
-impl Wind {
-    pub fn of(number: u8) -> Option<Wind> {
-        Some(match number {
-            60 => Wind::Drag,
-            61 => Wind::SdAlong,
-            62 => Wind::Hover,
-            _ => return None,
+impl Layer for Wind {
+    const ALL: &'static [Wind] = &[Wind::Drag, Wind::SdAlong, Wind::Hover];
+
+    // Each is another function, of other words.
+    fn answer(self, kept: &mut Replay, call: Call<'_>) -> Option<usize> {
+        match self {
+            Wind::Drag => call.answer(|(drag, velocity_mps)| drag_mps2(drag, velocity_mps)),
+            Wind::SdAlong => call.answer(|(matrix, direction)| sd_along_mps(matrix, direction)),
+            Wind::Hover => call.answer(|args| hover(&mut kept.hover_wind, args)),
+        }
+    }
+}
+
+fn drag_mps2(drag: Drag, velocity_mps: Vec2) -> Vec2 {
+    drag.0.drag_mps2(velocity_mps)
+}
+
+fn sd_along_mps(covariance_m2ps2: Matrix2, direction: Vec2) -> f32 {
+    let estimate = WindEstimate {
+        covariance_m2ps2,
+        ..WindEstimate::default()
+    };
+    estimate.sd_along_mps(direction)
+}
+
+#[derive(Clone, Copy)]
+enum Feeding {
+    Update,
+    Prime,
+    Fresh,
+}
+
+// The operations have names of their own, and so a match.
+impl Taken for Feeding {
+    fn taken(entry: &mut Entry<'_>) -> Option<Feeding> {
+        let operation: u32 = entry.take()?;
+        Some(match operation {
+            0 => Feeding::Update,
+            1 => Feeding::Prime,
+            _ => Feeding::Fresh,
         })
     }
-
-    pub fn words(self) -> u8 {
-        match self {
-            Wind::Drag | Wind::SdAlong => 6,
-            Wind::Hover => 27,
-        }
-    }
 }
 
-pub fn answer(memory: &mut HoverWind, function: Wind, entry: &mut Entry<'_>, out: &mut Answers) {
-    match function {
-        Wind::Drag => {
-            let (config, velocity_mps): (Drag, Vec2) = entry.take();
-            config.0.drag_mps2(velocity_mps).put(out);
-        }
-        Wind::SdAlong => {
-            let (covariance_m2ps2, direction) = entry.take();
-            let estimate = WindEstimate {
-                velocity_mps: Vec2::zeros(),
-                covariance_m2ps2,
-            };
-            estimate.sd_along_mps(direction).put(out);
-        }
-        Wind::Hover => hover(memory, entry, out),
-    }
-}
+// Tuples of words end at four, so they stand in groups.
+type HoverWords = ((Feeding, WindConfig), (f32, f32, VehicleState));
 
-// Operation 0 is update, 1 is prime, 2 is fresh.
-fn hover(memory: &mut HoverWind, entry: &mut Entry<'_>, out: &mut Answers) {
-    let (operation, config): (u32, WindConfig) = entry.take();
-    let (airborne_height_m, dt, state) = entry.take();
+fn hover(
+    memory: &mut HoverWind,
+    ((operation, config), (airborne_height_m, dt, state)): HoverWords,
+) -> HoverWind {
+    // Each operation is another method.
     *memory = match operation {
-        0 => memory.update(dt, config, airborne_height_m, state),
-        1 => memory.prime(airborne_height_m, state),
-        _ => HoverWind::new(),
+        Feeding::Update => memory.update(dt, config, airborne_height_m, state),
+        Feeding::Prime => memory.prime(airborne_height_m, state),
+        Feeding::Fresh => HoverWind::new(),
     };
-    memory.put(out);
+    *memory
 }
 
 // A configuration of the drag alone.
@@ -68,29 +81,12 @@ fn hover(memory: &mut HoverWind, entry: &mut Entry<'_>, out: &mut Answers) {
 pub struct Drag(pub WindConfig);
 
 impl Taken for Drag {
-    fn taken(entry: &mut Entry<'_>) -> Drag {
-        Drag(WindConfig {
-            ballistic_kgpm2: entry.take(),
-            momentum_per_s: entry.take(),
-            force_noise_mps2: 0.0,
-            process_noise_mps_per_rt_s: 0.0,
-            initial_sd_mps: 0.0,
-            gate_sigma: 0.0,
-            max_axial_speed_mps: 0.0,
-        })
-    }
-}
-
-impl Taken for WindConfig {
-    fn taken(entry: &mut Entry<'_>) -> WindConfig {
-        let Drag(drag) = entry.take();
-        WindConfig {
-            force_noise_mps2: entry.take(),
-            process_noise_mps_per_rt_s: entry.take(),
-            initial_sd_mps: entry.take(),
-            gate_sigma: entry.take(),
-            max_axial_speed_mps: entry.take(),
-            ..drag
-        }
+    fn taken(entry: &mut Entry<'_>) -> Option<Drag> {
+        let (ballistic_kgpm2, momentum_per_s) = entry.take()?;
+        Some(Drag(WindConfig {
+            ballistic_kgpm2,
+            momentum_per_s,
+            ..WindConfig::from([0.0; 9])
+        }))
     }
 }

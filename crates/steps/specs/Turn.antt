@@ -1,9 +1,9 @@
 -- A turn of the program: a record. Assumes nothing.
-use Rattle.std.specs.Prelude.{ℕ, Bool, false, List, Option, IfSome, ◌≡◌, replicate}
+use Rattle.std.specs.Prelude.{ℕ, false, List, Option, IfSome, ◌≡◌, replicate}
 use Rattle.copter.specs.declared.commands.Flags.{Flags}
 use Rattle.records.specs.declared.answer.Answer.{Answer}
 use Rattle.records.specs.declared.answer.Answer.TheVariants.{Attitude, BodyRate, Refused, Done, NoWind, Wind}
-use Rattle.records.specs.Step.{Outcome, step}
+use Rattle.records.specs.Step.{Outcome, answer_room, step}
 use Rattle.steps.specs.declared.flight.Flight.{Flight}
 
 -- the flags of the last call; a configure and a priming clear them
@@ -17,7 +17,7 @@ flags_after before (Wind estimate) = before
 
 -- what comes of the record that the bytes start with
 abbrev pub outcome : Flight → List ℕ → Outcome
-outcome flight bytes = step flight.craft bytes (replicate 32 0)
+outcome flight bytes = step flight.craft bytes (replicate answer_room 0)
 
 abbrev pub after_outcome : Flags → Outcome → Flight
 after_outcome before o = record { craft = o.craft; flags = flags_after before o.answer }
@@ -26,5 +26,5 @@ abbrev pub after_record : Flight → List ℕ → Flight
 after_record flight bytes = after_outcome flight.flags (outcome flight bytes)
 
 -- A turn that the flight goes on from handled one record and took its bytes.
-abbrev pub Turned : Flight → List ℕ → Bool → Option ℕ → Flight → Type 0
-Turned before held ended taken after = IfSome taken (λ n. (n ≡ (outcome before held).taken) × (after ≡ after_record before held))
+abbrev pub Turned : Flight → List ℕ → Option ℕ → Option ℕ → Flight → Type 0
+Turned before held got taken after = IfSome taken (λ n. (n ≡ (outcome before held).taken) × (after ≡ after_record before held))

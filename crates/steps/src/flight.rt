@@ -7,16 +7,11 @@ use buffers::Program;
 use copter::commands::Flags;
 use records::answer::Answer;
 use records::craft::Craft;
+use records::step::{self, ANSWER_ROOM};
 use std::io::Write;
 
-const NO_FLAGS: Flags = Flags {
-    tilt: false,
-    thrust: false,
-    idle: false,
-};
-
 // The craft, and the flags that the Rust keeps in it.
-#[derive(Clone, Copy)]
+#[derive(Clone, Copy, Default)]
 pub struct Flight {
     craft: Craft,
     flags: Flags,
@@ -28,19 +23,12 @@ fn flags_after(before: Flags, answer: Answer) -> Flags
 {
     match answer {
         Answer::Attitude(_, flags) | Answer::BodyRate(_, flags) => flags,
-        Answer::Done => NO_FLAGS,
+        Answer::Done => Flags::default(),
         Answer::Refused(_) | Answer::NoWind | Answer::Wind(_) => before,
     }
 }
 
 impl Flight {
-    pub fn new() -> Flight {
-        Flight {
-            craft: Craft::new(),
-            flags: NO_FLAGS,
-        }
-    }
-
     // Handles the record that `bytes` starts with, and gives the count of bytes that it took. What its
     // answer's bytes are does not matter here.
     fn step(&mut self, bytes: &[u8]) -> usize
@@ -48,19 +36,20 @@ impl Flight {
         ensures within { result ≤ length bytes.now }
         ensures after { self.new ≡ after_record self.old bytes.now }
     {
-        let mut buffer = [0u8; 32];
-        let handled = records::step::record(self.craft, bytes, &mut buffer);
+        let mut buffer = [0; ANSWER_ROOM];
+        let handled = step::record(self.craft, bytes, &mut buffer);
         self.craft = handled.craft;
         self.flags = flags_after(self.flags, handled.answer);
         handled.taken
     }
 }
 
-// A turn is a record. One that takes no byte has an unknown kind or is cut short, and ends the flight.
+// A turn is a record; with no byte held there is none. One that takes no byte has an unknown kind or is
+// cut short, and ends the flight.
 impl Program for Flight {
     ghost turned = { Turned };
 
-    fn turn<W: Write>(&mut self, held: &[u8], _ended: bool, writer: &mut W) -> Option<usize> {
+    fn turn<W: Write>(&mut self, held: &[u8], _: Option<usize>, writer: &mut W) -> Option<usize> {
         if held.is_empty() {
             return None;
         }

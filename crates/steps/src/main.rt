@@ -7,15 +7,19 @@ mod flight;
 mod memory;
 
 use buffers::{Buffer, Reading};
+use copter::config::FIELDS;
 use flight::Flight;
+use records::kinds::NUMBER;
 
-// As long as the longest record, a configure.
-const INPUT: usize = 201;
+// As long as the longest record, a configure: its kind and its fields.
+const INPUT: usize = 1 + FIELDS * NUMBER;
 
 fn main(rt: HostRuntime) {
-    let mut reader = rt.reader();
-    let mut writer = rt.stdout();
-    let mut flight = Flight::new();
-    let mut input: Buffer<INPUT> = Buffer::new();
-    input.run(&mut flight, Reading::Full, &mut reader, &mut writer);
+    let mut flight = Flight::default();
+    Buffer::<INPUT>::new().run(
+        &mut flight,
+        Reading::Full,
+        &mut rt.reader(),
+        &mut rt.stdout(),
+    );
 }

@@ -1,6 +1,6 @@
 // A craft's memory as words, in the order that tests/oracle/README.md gives under "Memory after each
 // record".
-ghost use Rattle.std.specs.Prelude.{◌≡◌, ◌++◌, take};
+ghost use Rattle.std.specs.Prelude.{◌≡◌, ◌++◌, take, Some};
 ghost use Rattle.steps.specs.Memory as spec;
 
 use buffers::Buffer;
@@ -9,31 +9,52 @@ use copter::memory::Memory;
 use records::craft::Craft;
 use words::Words;
 
-// The bytes of a craft's 63 words, with the flags of its last call. With no craft configured all are 0.
-pub fn bytes(craft: Craft, flags: Flags) -> [u8; 252]
-    ensures { result ≡ spec.memory_bytes craft flags }
+// The bytes of the words of a craft.
+const BYTES: usize = 4 * 63;
+
+// The bytes of a craft's 63 words, with the flags of its last call. With no craft configured all are 0,
+// and else no word is lost.
+pub fn bytes(craft: Craft, flags: Flags) -> [u8; BYTES]
+    ensures bytes { result ≡ spec.memory_bytes craft flags }
+    ensures whole { (guidance : _) → craft.guidance ≡ Some guidance → result ≡ spec.craft_words (Some guidance) flags }
 {
-    let mut out: Buffer<252> = Buffer::new();
+    craft_words(craft, flags).padded()
+}
+
+// None with no craft configured.
+fn craft_words(craft: Craft, flags: Flags) -> Buffer<BYTES>
+    ensures { result ≡ take 252 (spec.craft_words craft.guidance flags) }
+{
+    let mut out: Buffer<BYTES> = Buffer::new();
     if let Some(guidance) = craft.guidance {
         (true, flags.tilt, flags.thrust).put(&mut out);
         put_memory(guidance.memory, &mut out);
     }
-    out.padded()
+    out
 }
 
-fn put_memory(memory: Memory, out: &mut Buffer<252>)
+fn put_memory(memory: Memory, out: &mut Buffer<BYTES>)
     ensures { out.new ≡ take 252 (out.old ++ spec.memory_words memory) }
 {
-    let vertical = memory.vertical;
-    let lateral = memory.lateral;
-    let tilt = (
-        lateral.tilt_rad,
-        lateral.tilt_capped,
-        lateral.requested_accel_mps2,
-    );
-    let height = (vertical.target, vertical.descent_speed_mps);
-    let pace = (lateral.rate.elapsed_s, memory.heading_rad);
-    let course = (memory.leg_heading, memory.wind);
-    let controllers = (vertical.controller.integrated_error, lateral.controller);
-    (tilt, height, pace, (course, controllers)).put(out);
+    let Memory {
+        vertical,
+        lateral,
+        heading_rad,
+        leg_heading,
+        wind,
+    } = memory;
+    (
+        (
+            lateral.tilt_rad,
+            lateral.tilt_capped,
+            lateral.requested_accel_mps2,
+        ),
+        (vertical.target, vertical.descent_speed_mps),
+        (lateral.rate.elapsed_s, heading_rad),
+        (
+            (leg_heading, wind),
+            (vertical.controller.integrated_error, lateral.controller),
+        ),
+    )
+        .put(out);
 }

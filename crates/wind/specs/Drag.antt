@@ -1,6 +1,6 @@
 -- The drag along an axis, from `WindConfig` and `AxisDrag` of wind.rs. Assumes nothing.
-use Rattle.std.specs.Prelude.{Bool, cond, ◌||◌, Option, Some, None, Float}
-use Rattle.std.specs.Float.{binary32}
+use Rattle.std.specs.Prelude.{Bool, cond, ◌||◌, List, get_or, Option, Some, None, Float}
+use Rattle.std.specs.Float.{binary32, nan}
 use Rattle.std.specs.Float.Ieee.{neg, lt}
 use Rattle.floats.specs.Ops.{f32, ◌⊕◌, ◌⊖◌, ◌⊗◌, ◌⊘◌}
 use Rattle.floats.specs.Compare.{abs, signum}
@@ -16,6 +16,19 @@ four = f32 0x4080_0000
 -- 1.225 kg/m³
 abbrev pub air_density : Float
 air_density = f32 0x3F9C_CCCD
+
+-- the configuration of nine numbers in the order of its fields, counted from 0
+abbrev pub config_of : List Float → WindConfig
+config_of values =
+    record {
+      ballistic_kgpm2 = record { x = get_or values 0 nan; y = get_or values 1 nan };
+      momentum_per_s = record { x = get_or values 2 nan; y = get_or values 3 nan };
+      force_noise_mps2 = get_or values 4 nan;
+      process_noise_mps_per_rt_s = get_or values 5 nan;
+      initial_sd_mps = get_or values 6 nan;
+      gate_sigma = get_or values 7 nan;
+      max_axial_speed_mps = get_or values 8 nan;
+    }
 
 -- whether any axis has a drag coefficient
 unfoldable pub is_on : WindConfig → Bool

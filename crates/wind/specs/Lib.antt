@@ -2,6 +2,7 @@
 pub mod Drag
 pub mod Estimate
 pub mod Sample
+pub mod State
 pub mod Wind
 pub mod Window
 pub mod Inner

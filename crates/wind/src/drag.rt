@@ -2,7 +2,7 @@
 // rotors' momentum drag.
 ghost use Rattle.std.specs.Prelude.{◌≡◌, true};
 ghost use Rattle.math.specs.Math.{zero};
-ghost use Rattle.wind.specs.Drag.{is_on, axis_drag, airspeed, push, slope, newton_step, still_air, against, air_velocity, drag_along, drag};
+ghost use Rattle.wind.specs.Drag.{config_of, is_on, axis_drag, airspeed, push, slope, newton_step, still_air, against, air_velocity, drag_along, drag};
 ghost use Rattle.wind.specs.Inner.{three_steps, air_and_slope, with_slope};
 
 use math::vectors::Vec2;
@@ -45,6 +45,40 @@ pub struct Step {
     pub slope_per_s: f32,
 }
 
+// From the numbers in the order of the fields, x before y.
+impl From<[f32; 9]> for WindConfig {
+    ghost from_gives = { λ fields config. config ≡ config_of fields };
+
+    fn from(fields: [f32; 9]) -> WindConfig {
+        let [
+            ballistic_x_kgpm2,
+            ballistic_y_kgpm2,
+            momentum_x_per_s,
+            momentum_y_per_s,
+            force_noise_mps2,
+            process_noise_mps_per_rt_s,
+            initial_sd_mps,
+            gate_sigma,
+            max_axial_speed_mps,
+        ] = fields;
+        WindConfig {
+            ballistic_kgpm2: Vec2 {
+                x: ballistic_x_kgpm2,
+                y: ballistic_y_kgpm2,
+            },
+            momentum_per_s: Vec2 {
+                x: momentum_x_per_s,
+                y: momentum_y_per_s,
+            },
+            force_noise_mps2,
+            process_noise_mps_per_rt_s,
+            initial_sd_mps,
+            gate_sigma,
+            max_axial_speed_mps,
+        }
+    }
+}
+
 impl WindConfig {
     // Whether any axis has a drag coefficient.
     #[tactic(auto, unfolding(crate::specs::Drag::is_on))]
@@ -68,7 +102,8 @@ impl WindConfig {
         }
     }
 
-    // The drag along the thrust frame's x.
+    // The drag along the thrust frame's x. Each axis has its function, as each component of a `Vec2` has its
+    // name: one function of the axis would need a type for it, and say x and y all the same.
     pub(crate) fn along_x(self) -> AxisDrag
         ensures { result ≡ axis_drag self.ballistic_kgpm2.x self.momentum_per_s.x }
     {
@@ -120,7 +155,8 @@ impl AxisDrag {
         self.push_mps2(air_mps, 0.0)
     }
 
-    // The size of the drag's acceleration, with air along the axis and along the thrust axis.
+    // The size of the drag's acceleration, with air along the axis and along the thrust axis: two numbers and
+    // no struct, since Newton's method changes the one and keeps the other.
     #[tactic(auto, unfolding(crate::specs::Drag::push))]
     pub fn push_mps2(self, air_mps: f32, axial_mps: f32) -> f32
         ensures { result ≡ push self air_mps axial_mps }
@@ -163,22 +199,22 @@ impl AxisDrag {
     }
 
     // Three steps, and the slope at the last speed. After a step that left the speed as it was, the
-    // others would too, and are not taken.
+    // others would too, and are not taken, and the slope is known.
+    #[tactic(auto, using(crate::proofs::Laws::Drag::stays), unfolding(crate::specs::Inner::three_steps, crate::proofs::Laws::Drag::stepped))]
     fn three_steps(self, push: f32, axial_mps: f32, speed: f32) -> Step
         ensures { result ≡ three_steps self push axial_mps speed }
     {
-        let first = self.newton_step(push, axial_mps, speed);
-        if surely_same(speed, first.speed) {
-            return first;
+        let mut speed = speed;
+        for _ in 0..3u32 {
+            let step = self.newton_step(push, axial_mps, speed);
+            if surely_same(speed, step.speed) {
+                return step;
+            }
+            speed = step.speed;
         }
-        let second = self.newton_step(push, axial_mps, first.speed);
-        if surely_same(first.speed, second.speed) {
-            return second;
-        }
-        let third = self.newton_step(push, axial_mps, second.speed);
         Step {
-            speed: third.speed,
-            slope_per_s: self.slope_per_s(third.speed, axial_mps),
+            speed,
+            slope_per_s: self.slope_per_s(speed, axial_mps),
         }
     }
 
@@ -187,15 +223,17 @@ impl AxisDrag {
     fn still_air(self, push: f32) -> f32
         ensures { result ≡ still_air self push }
     {
-        let k = self.k_per_m;
-        let mu = self.mu_per_s;
+        let AxisDrag {
+            k_per_m: k,
+            mu_per_s: mu,
+        } = self;
         (floats::sqrt::sqrtf(mu * mu + 4.0 * k * push) - mu) / (2.0 * k)
     }
 
     // The air velocity that the drag `force_mps2` comes from, and the slope there; none where the axis has
     // no drag. Drag opposes the air velocity, so that it is against the force. The clauses say the same,
     // by the source's steps and as the code divides them.
-    #[tactic(auto, unfolding(crate::specs::Inner::air_and_slope))]
+    #[tactic(auto, using(crate::proofs::Laws::Drag::steps_as_source), unfolding(crate::specs::Inner::air_and_slope))]
     pub fn air_velocity(self, force_mps2: f32, axial_mps: f32) -> Option<AirVelocity>
         ensures of_source { result ≡ with_slope self axial_mps (air_velocity self force_mps2 axial_mps) }
         ensures in_steps { result ≡ air_and_slope self force_mps2 axial_mps }
@@ -209,14 +247,13 @@ impl AxisDrag {
                 slope_per_s: fourth.slope_per_s,
             });
         }
-        if self.mu_per_s > 0.0 {
-            let air_mps = against(force_mps2, push / self.mu_per_s);
-            return Some(AirVelocity {
-                along_mps: air_mps,
-                slope_per_s: self.slope_per_s(air_mps, axial_mps),
-            });
-        }
-        None
+        (self.mu_per_s > 0.0).then(|| {
+            let along_mps = against(force_mps2, push / self.mu_per_s);
+            AirVelocity {
+                along_mps,
+                slope_per_s: self.slope_per_s(along_mps, axial_mps),
+            }
+        })
     }
 }
 
@@ -238,8 +275,5 @@ fn surely_same(v: f32, w: f32) -> bool
 fn against(force_mps2: f32, speed: f32) -> f32
     ensures { result ≡ against force_mps2 speed }
 {
-    if force_mps2 > 0.0 {
-        return -speed;
-    }
-    speed
+    if force_mps2 > 0.0 { -speed } else { speed }
 }

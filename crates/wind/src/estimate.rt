@@ -4,9 +4,10 @@ ghost use Rattle.wind.specs.Estimate.{diagonal, sum, initial, predict, correct, 
 
 use crate::drag::WindConfig;
 use math::vectors::Vec2;
+use std::ops::{Add, Mul};
 
 // Two rows of two, in m²/s² where it is a covariance.
-#[derive(Clone, Copy, PartialEq)]
+#[derive(Clone, Copy, PartialEq, Default)]
 pub struct Matrix2 {
     pub m00: f32,
     pub m01: f32,
@@ -28,23 +29,16 @@ impl Matrix2 {
             m11: 1.0 * s,
         }
     }
+}
 
-    fn plus(self, other: Matrix2) -> Matrix2
-        ensures { result ≡ sum self other }
-    {
-        Matrix2 {
-            m00: self.m00 + other.m00,
-            m01: self.m01 + other.m01,
-            m10: self.m10 + other.m10,
-            m11: self.m11 + other.m11,
-        }
-    }
+// A covariance times an axis.
+impl Mul<Vec2> for Matrix2 {
+    type Output = Vec2;
 
-    // The matrix times an axis.
+    ghost mul_gives = { λ m v r. r ≡ covariance_along m v };
+
     #[tactic(auto, unfolding(crate::specs::Estimate::covariance_along))]
-    fn along(self, axis: Vec2) -> Vec2
-        ensures { result ≡ covariance_along self axis }
-    {
+    fn mul(self, axis: Vec2) -> Vec2 {
         Vec2 {
             x: self.m00 * axis.x + self.m01 * axis.y,
             y: self.m10 * axis.x + self.m11 * axis.y,
@@ -52,8 +46,23 @@ impl Matrix2 {
     }
 }
 
+impl Add for Matrix2 {
+    type Output = Matrix2;
+
+    ghost add_gives = { λ a b r. r ≡ sum a b };
+
+    fn add(self, other: Matrix2) -> Matrix2 {
+        Matrix2 {
+            m00: self.m00 + other.m00,
+            m01: self.m01 + other.m01,
+            m10: self.m10 + other.m10,
+            m11: self.m11 + other.m11,
+        }
+    }
+}
+
 // The air's velocity, to where the wind blows, and its covariance.
-#[derive(Clone, Copy, PartialEq)]
+#[derive(Clone, Copy, PartialEq, Default)]
 pub struct WindEstimate {
     pub velocity_mps: Vec2,
     pub covariance_m2ps2: Matrix2,
@@ -79,7 +88,7 @@ impl WindEstimate {
         let q = config.process_noise_mps_per_rt_s;
         let growth = Matrix2::diagonal(q * q * elapsed_s);
         WindEstimate {
-            covariance_m2ps2: self.covariance_m2ps2.plus(growth),
+            covariance_m2ps2: self.covariance_m2ps2 + growth,
             ..self
         }
     }
@@ -96,7 +105,7 @@ impl WindEstimate {
     ) -> WindEstimate
         ensures { result ≡ correct self axis measured_mps variance_m2ps2 gate_sigma }
     {
-        let along = self.covariance_m2ps2.along(axis);
+        let along = self.covariance_m2ps2 * axis;
         let innovation_variance = axis.dot(along) + variance_m2ps2;
         let innovation = measured_mps - axis.dot(self.velocity_mps);
         let gate = gate_sigma * gate_sigma * innovation_variance;
@@ -113,17 +122,15 @@ impl WindEstimate {
         ensures { result ≡ corrected self along innovation innovation_variance }
     {
         let gain = along / innovation_variance;
-        let p = self.covariance_m2ps2;
-        let m01 = p.m01 - gain.x * along.y;
-        let m10 = p.m10 - gain.y * along.x;
-        let off = 0.5 * (m01 + m10);
+        let Matrix2 { m00, m01, m10, m11 } = self.covariance_m2ps2;
+        let off = 0.5 * (m01 - gain.x * along.y + (m10 - gain.y * along.x));
         WindEstimate {
             velocity_mps: self.velocity_mps + gain * innovation,
             covariance_m2ps2: Matrix2 {
-                m00: p.m00 - gain.x * along.x,
+                m00: m00 - gain.x * along.x,
                 m01: off,
                 m10: off,
-                m11: p.m11 - gain.y * along.y,
+                m11: m11 - gain.y * along.y,
             },
         }
     }
@@ -133,9 +140,9 @@ impl WindEstimate {
     pub fn sd_along_mps(self, direction: Vec2) -> f32
         ensures { result ≡ sd_along self direction }
     {
-        let p = self.covariance_m2ps2;
-        let x = direction.x * p.m00 + direction.y * p.m10;
-        let y = direction.x * p.m01 + direction.y * p.m11;
+        let Matrix2 { m00, m01, m10, m11 } = self.covariance_m2ps2;
+        let x = direction.x * m00 + direction.y * m10;
+        let y = direction.x * m01 + direction.y * m11;
         floats::sqrt::sqrtf(floats::minmax::max(x * direction.x + y * direction.y, 0.0))
     }
 }

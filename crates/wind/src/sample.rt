@@ -1,11 +1,12 @@
 // What one call tells of the air: the specific force and the ground velocity along the thrust frame's
 // axes, and the horizontal parts of those axes.
 ghost use Rattle.std.specs.Prelude.{◌≡◌};
-ghost use Rattle.wind.specs.Sample.{rotation, body_axes, dot3, along, specific_force_ned, sample_finite, zero_sample, sample_sum, sample_over, from_state};
+ghost use Rattle.wind.specs.Sample.{rotation, body_axes, along, specific_force_ned, sample_finite, sample_sum, sample_over, from_state};
 
 use crate::state::VehicleState;
 pub use math::GRAVITY;
 use math::vectors::{Quaternion, Vec2, Vec3};
+use std::ops::{Add, Div};
 
 // Cosine of the most tilt that a sample is taken at, 45 degrees: the root of a half.
 const MIN_TILT_COSINE: f32 = 0.70710677;
@@ -68,21 +69,14 @@ fn body_axes(q: Quaternion) -> BodyAxes
     }
 }
 
-fn dot3(v: Vec3, w: Vec3) -> f32
-    ensures { result ≡ dot3 v w }
-{
-    v.x * w.x + v.y * w.y + v.z * w.z
-}
-
 // The acceleration felt, without gravity, north, east and down.
 #[tactic(auto, unfolding(crate::specs::Sample::specific_force_ned))]
 fn specific_force_ned(a: Vec3) -> Vec3
     ensures { result ≡ specific_force_ned a }
 {
     Vec3 {
-        x: a.x,
-        y: a.y,
         z: -a.z - GRAVITY,
+        ..a
     }
 }
 
@@ -110,25 +104,16 @@ impl Sample {
         ensures { result ≡ along axes state }
     {
         let velocity_ned = math::neu_to_ned(state.velocity_mps);
-        let force_ned = specific_force_ned(state.acceleration_mps2);
+        let along = |v: Vec3| Vec2 {
+            x: axes.x.dot(v),
+            y: axes.y.dot(v),
+        };
         Sample {
-            specific_force_mps2: Vec2 {
-                x: dot3(axes.x, force_ned),
-                y: dot3(axes.y, force_ned),
-            },
-            ground_along_mps: Vec2 {
-                x: dot3(axes.x, velocity_ned),
-                y: dot3(axes.y, velocity_ned),
-            },
-            axis_x: Vec2 {
-                x: axes.x.x,
-                y: axes.x.y,
-            },
-            axis_y: Vec2 {
-                x: axes.y.x,
-                y: axes.y.y,
-            },
-            axial_mps: dot3(axes.z, velocity_ned),
+            specific_force_mps2: along(specific_force_ned(state.acceleration_mps2)),
+            ground_along_mps: along(velocity_ned),
+            axis_x: axes.x.horizontal(),
+            axis_y: axes.y.horizontal(),
+            axial_mps: axes.z.dot(velocity_ned),
         }
     }
 
@@ -142,16 +127,14 @@ impl Sample {
             && math::all_finite(self.axis_y)
             && floats::compare::is_finite(self.axial_mps)
     }
+}
 
-    pub(crate) fn zeros() -> Sample
-        ensures { result ≡ zero_sample }
-    {
-        Sample::default()
-    }
+impl Add for Sample {
+    type Output = Sample;
 
-    pub(crate) fn plus(self, other: Sample) -> Sample
-        ensures { result ≡ sample_sum self other }
-    {
+    ghost add_gives = { λ a b r. r ≡ sample_sum a b };
+
+    fn add(self, other: Sample) -> Sample {
         Sample {
             specific_force_mps2: self.specific_force_mps2 + other.specific_force_mps2,
             ground_along_mps: self.ground_along_mps + other.ground_along_mps,
@@ -160,10 +143,14 @@ impl Sample {
             axial_mps: self.axial_mps + other.axial_mps,
         }
     }
+}
 
-    pub(crate) fn over(self, n: f32) -> Sample
-        ensures { result ≡ sample_over self n }
-    {
+impl Div<f32> for Sample {
+    type Output = Sample;
+
+    ghost div_gives = { λ sample n r. r ≡ sample_over sample n };
+
+    fn div(self, n: f32) -> Sample {
         Sample {
             specific_force_mps2: self.specific_force_mps2 / n,
             ground_along_mps: self.ground_along_mps / n,

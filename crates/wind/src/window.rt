@@ -46,7 +46,7 @@ impl Window {
         Window {
             elapsed_s: self.elapsed_s + dt,
             ticks: self.ticks.wrapping_add(1),
-            sums: self.sums.plus(sample),
+            sums: self.sums + sample,
         }
     }
 
@@ -55,7 +55,7 @@ impl Window {
     fn mean(self) -> Sample
         ensures { result ≡ mean self }
     {
-        self.sums.over(std::num::nearest_u32_to_f32(self.ticks))
+        self.sums / std::num::nearest_u32_to_f32(self.ticks)
     }
 }
 
@@ -68,7 +68,8 @@ impl WindEstimator {
     }
 
     // Takes in the state of one call. With no drag coefficient, or where the state gives no sample,
-    // nothing changes.
+    // nothing changes. Of a call's configuration it is handed the wind's part alone, so that the three are no
+    // struct.
     #[tactic(auto, unfolding(crate::specs::Wind::update, crate::specs::Wind::taken))]
     pub fn update(self, dt: f32, config: WindConfig, state: VehicleState) -> WindEstimator
         ensures { result ≡ update self dt config state }
@@ -110,6 +111,11 @@ fn closed(filter: Option<WindEstimate>, config: WindConfig, window: Window) -> W
     ensures { result ≡ closed filter config window }
 {
     let mean = window.mean();
+    let measured = |force_mps2: f32, ground_mps: f32| Measured {
+        force_mps2,
+        ground_mps,
+        axial_mps: mean.axial_mps,
+    };
     let predicted = filter
         .unwrap_or_else(|| WindEstimate::initial(config))
         .predict(window.elapsed_s, config);
@@ -118,22 +124,14 @@ fn closed(filter: Option<WindEstimate>, config: WindConfig, window: Window) -> W
         config,
         config.along_x(),
         mean.axis_x,
-        Measured {
-            force_mps2: mean.specific_force_mps2.x,
-            ground_mps: mean.ground_along_mps.x,
-            axial_mps: mean.axial_mps,
-        },
+        measured(mean.specific_force_mps2.x, mean.ground_along_mps.x),
     );
     axis_corrected(
         along_x,
         config,
         config.along_y(),
         mean.axis_y,
-        Measured {
-            force_mps2: mean.specific_force_mps2.y,
-            ground_mps: mean.ground_along_mps.y,
-            axial_mps: mean.axial_mps,
-        },
+        measured(mean.specific_force_mps2.y, mean.ground_along_mps.y),
     )
 }
 
@@ -146,6 +144,7 @@ pub struct Measured {
 }
 
 // The estimate corrected by the air velocity that the force along an axis tells.
+#[tactic(auto, using(crate::proofs::Laws::Drag::none_handed_on), unfolding(crate::specs::Wind::axis_corrected))]
 fn axis_corrected(
     estimate: WindEstimate,
     config: WindConfig,

@@ -9,7 +9,7 @@ ghost use Rattle.std.specs.Float.{binary32};
 ghost use Rattle.std.specs.Int.{w32, to_le_bytes};
 ghost use Rattle.floats.specs.Bits.{le_bytes};
 ghost use Rattle.floats.specs.Ops.{f32 as float};
-ghost use Rattle.words.specs.Words.{flag, none_or};
+ghost use Rattle.words.specs.Words.{flag, none_or, ok_or};
 
 use buffers::Sink;
 
@@ -22,7 +22,8 @@ pub trait Words {
         ensures { S.contents out.new ≡ take S.capacity (S.contents out.old ++ bytes self) };
 }
 
-// A type with a value whose words are all 0.
+// A type with a value whose words are all 0. A `Default` says what holds of a value, and the words of
+// an `Option` need the value itself.
 pub trait Blank {
     ghost blank: { Self };
 
@@ -63,7 +64,8 @@ impl Words for bool {
     }
 }
 
-// A flag and the value; zeros where there is none.
+// A flag and the value; zeros where there is none. A match, as `unwrap_or` asks that a `T` can be
+// dropped.
 impl<T: Words + Blank> Words for Option<T> {
     ghost bytes = { none_or T.bytes T.blank };
 
@@ -75,6 +77,19 @@ impl<T: Words + Blank> Words for Option<T> {
     }
 }
 
+// The words of the value, or of the error.
+impl<T: Words, E: Words> Words for Result<T, E> {
+    ghost bytes = { ok_or T.bytes E.bytes };
+
+    fn put<S: Sink>(self, out: &mut S) {
+        match self {
+            Ok(x) => x.put(out),
+            Err(e) => e.put(out),
+        }
+    }
+}
+
+// One impl for each length: impls are not written by macros here.
 impl<A: Words, B: Words> Words for (A, B) {
     ghost bytes = { λ x. A.bytes x.0 ++ B.bytes x.1 };
 

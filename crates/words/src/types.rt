@@ -1,6 +1,4 @@
 // The words of the guidance's own types: each field in turn.
-ghost use Rattle.std.specs.Prelude.{◌≡◌};
-ghost use Rattle.floats.specs.Ops.{f32 as float};
 ghost use Rattle.words.specs.Types as types;
 ghost use Rattle.math.specs.Vectors.{zeros};
 
@@ -74,8 +72,12 @@ impl Words for HoverWind {
     ghost bytes = { types.hover_wind };
 
     fn put<S: Sink>(self, out: &mut S) {
-        let estimator = self.estimator;
-        (estimator.filter, estimator.window, self.ground_altitude_m).put(out);
+        (
+            self.estimator.filter,
+            self.estimator.window,
+            self.ground_altitude_m,
+        )
+            .put(out);
     }
 }
 
@@ -107,9 +109,13 @@ impl Words for LateralController {
     ghost bytes = { types.lateral };
 
     fn put<S: Sink>(self, out: &mut S) {
-        let previous_error = self.derivative.previous_error;
-        let velocities = (self.shaped_velocity_mps, self.commanded_velocity_mps);
-        (self.integrated_error, previous_error, velocities).put(out);
+        (
+            self.integrated_error,
+            self.derivative.previous_error,
+            self.shaped_velocity_mps,
+            self.commanded_velocity_mps,
+        )
+            .put(out);
     }
 }
 
@@ -125,15 +131,7 @@ impl Blank for WindEstimate {
     ghost blank = { types.no_estimate };
 
     fn blank() -> WindEstimate {
-        WindEstimate {
-            velocity_mps: Vec2::blank(),
-            covariance_m2ps2: Matrix2 {
-                m00: 0.0,
-                m01: 0.0,
-                m10: 0.0,
-                m11: 0.0,
-            },
-        }
+        WindEstimate::default()
     }
 }
 
@@ -141,9 +139,6 @@ impl Blank for Leg {
     ghost blank = { types.no_leg };
 
     fn blank() -> Leg {
-        Leg {
-            to_m: Vec2::blank(),
-            bearing_rad: None,
-        }
+        Leg::default()
     }
 }

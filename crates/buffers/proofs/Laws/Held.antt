@@ -1,7 +1,5 @@
 -- What a buffer holds after a write behind what it held, and after its first bytes are dropped. Assumes nothing.
-use Rattle.std.proofs.Common.{◌≡◌, ◌∙◌, ℕ, ◌+◌, ◌-◌, ◌≤◌, List, [], ◌++◌, Option, length, take, drop, sym, arith, rules, min}
-use Rattle.std.specs.Prelude.{None, Some}
-use Rattle.std.specs.Io.KnownBytes.{Consumes, Keeps}
+use Rattle.std.proofs.Common.{◌≡◌, ◌∙◌, ℕ, ◌+◌, ◌-◌, ◌≤◌, List, ◌++◌, length, take, drop, arith, rules, min}
 use Rattle.std.proofs.lemmas.List.{same_lists, places}
 use Rattle.std.proofs.lemmas.Grind.{common_steps}
 use borrow.Rule.Slice.PartMut.{put_mid}
@@ -28,8 +26,3 @@ appended held count room capacity bytes given part e h k p =
 pub dropped : (held count : ℕ) (bytes : List ℕ) → held ≤ length bytes → take (held - count) (moved bytes count held) ≡ drop count (take held bytes)
 unfolding moved
 dropped held count bytes h = rw (le-leb _ _ h) (same_lists _ _ (grind (arith, common_steps, places)) (λ i d within. grind (arith, common_steps, places)))
-
-pub consumes_none : (left after : Option (List ℕ)) → Keeps left after → Consumes left after []
-consumes_none None after h = tt
-consumes_none (Some xs) None h = h
-consumes_none (Some xs) (Some ys) h = sym h

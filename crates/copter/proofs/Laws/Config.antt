@@ -2,7 +2,7 @@
 -- rules, and are the Rust's by name. Which numbers the rules of this layer take; those of the checks of the layer below are in its laws. Assumes nothing.
 use Prim.Native.Nat.{ℕ, zero, suc, ◌+◌, ◌≤◌, ◌<◌}
 use mathlib.Core.Path.{◌≡◌, refl, subst}
-use mathlib.Core.Bool.{Bool, true, false, cond}
+use mathlib.Core.Bool.{Bool, true, false, cond, ◌&&◌}
 use mathlib.Core.Logic.{◌↔◌}
 use mathlib.Core.List.{List}
 use native.Mathlib.Omega.{arith}
@@ -40,54 +40,57 @@ pub kept_valid : (values : List Float) → EachKeeps values → Valid (config_of
 unfolding config_of rule
 kept_valid values keeps =
     record {
-      altitude_gains_p = keeps 1 (lit≤ tt) (lit≤ tt);
-      altitude_gains_i = keeps 2 (lit≤ tt) (lit≤ tt);
-      altitude_gains_d = keeps 3 (lit≤ tt) (lit≤ tt);
-      altitude_max_integral = keeps 4 (lit≤ tt) (lit≤ tt);
-      hover_thrust = keeps 5 (lit≤ tt) (lit≤ tt);
-      integration_band_m = keeps 6 (lit≤ tt) (lit≤ tt);
-      position_p = keeps 7 (lit≤ tt) (lit≤ tt);
-      lateral_max_integral = keeps 11 (lit≤ tt) (lit≤ tt);
-      max_accel_mps2 = keeps 12 (lit≤ tt) (lit≤ tt);
-      brake_mps2 = keeps 13 (lit≤ tt) (lit≤ tt);
-      braking_share = keeps 14 (lit≤ tt) (lit≤ tt);
-      navigation_period_s = keeps 15 (lit≤ tt) (lit≤ tt);
-      max_stick_angles_rad_x = keeps 16 (lit≤ tt) (lit≤ tt);
-      max_stick_angles_rad_y = keeps 17 (lit≤ tt) (lit≤ tt);
-      stick_yaw_rate_radps = keeps 18 (lit≤ tt) (lit≤ tt);
-      idle_throttle = keeps 19 (lit≤ tt) (lit≤ tt);
-      max_tilt_rad = keeps 20 (lit≤ tt) (lit≤ tt);
-      max_descent_mps = keeps 21 (lit≤ tt) (lit≤ tt);
-      descent_accel_mps2 = keeps 22 (lit≤ tt) (lit≤ tt);
-      climb_decel_mps2 = keeps 23 (lit≤ tt) (lit≤ tt);
-      altitude_leash_m = keeps 24 (lit≤ tt) (lit≤ tt);
-      land_speed_mps = keeps 25 (lit≤ tt) (lit≤ tt);
-      waypoint_yaw_radps = keeps 26 (lit≤ tt) (lit≤ tt);
-      heading_rate_radps = keeps 27 (lit≤ tt) (lit≤ tt);
-      waypoint_yaw_min_leg_m = keeps 28 (lit≤ tt) (lit≤ tt);
-      heading_yield_rad = keeps 29 (lit≤ tt) (lit≤ tt);
-      heading_yield_rate_radps = keeps 30 (lit≤ tt) (lit≤ tt);
-      heading_yield_s = keeps 31 (lit≤ tt) (lit≤ tt);
-      wind_heading_min_mps = keeps 32 (lit≤ tt) (lit≤ tt);
-      wind_heading_from_wind_rad = keeps 33 (lit≤ tt) (lit≤ tt);
-      wind_heading_max_sd_rad = keeps 34 (lit≤ tt) (lit≤ tt);
-      wind_heading_deadband_rad = keeps 35 (lit≤ tt) (lit≤ tt);
-      airborne_height_m = keeps 36 (lit≤ tt) (lit≤ tt);
-      feedforward_hold_band_mps = keeps 37 (lit≤ tt) (lit≤ tt);
-      min_thrust = keeps 38 (lit≤ tt) (lit≤ tt);
-      sink_limit_mps = keeps 39 (lit≤ tt) (lit≤ tt);
-      sink_gain = keeps 40 (lit≤ tt) (lit≤ tt);
-      max_boost_thrust = keeps 41 (lit≤ tt) (lit≤ tt);
-      ballistic_kgpm2_x = keeps 42 (lit≤ tt) (lit≤ tt);
-      ballistic_kgpm2_y = keeps 43 (lit≤ tt) (lit≤ tt);
-      momentum_per_s_x = keeps 44 (lit≤ tt) (lit≤ tt);
-      momentum_per_s_y = keeps 45 (lit≤ tt) (lit≤ tt);
-      force_noise_mps2 = keeps 46 (lit≤ tt) (lit≤ tt);
-      process_noise_mps_per_rt_s = keeps 47 (lit≤ tt) (lit≤ tt);
-      initial_sd_mps = keeps 48 (lit≤ tt) (lit≤ tt);
-      gate_sigma = keeps 49 (lit≤ tt) (lit≤ tt);
-      max_axial_speed_mps = keeps 50 (lit≤ tt) (lit≤ tt);
+      altitude_gains_p = its 1 tt;
+      altitude_gains_i = its 2 tt;
+      altitude_gains_d = its 3 tt;
+      altitude_max_integral = its 4 tt;
+      hover_thrust = its 5 tt;
+      integration_band_m = its 6 tt;
+      position_p = its 7 tt;
+      lateral_max_integral = its 11 tt;
+      max_accel_mps2 = its 12 tt;
+      brake_mps2 = its 13 tt;
+      braking_share = its 14 tt;
+      navigation_period_s = its 15 tt;
+      max_stick_angles_rad_x = its 16 tt;
+      max_stick_angles_rad_y = its 17 tt;
+      stick_yaw_rate_radps = its 18 tt;
+      idle_throttle = its 19 tt;
+      max_tilt_rad = its 20 tt;
+      max_descent_mps = its 21 tt;
+      descent_accel_mps2 = its 22 tt;
+      climb_decel_mps2 = its 23 tt;
+      altitude_leash_m = its 24 tt;
+      land_speed_mps = its 25 tt;
+      waypoint_yaw_radps = its 26 tt;
+      heading_rate_radps = its 27 tt;
+      waypoint_yaw_min_leg_m = its 28 tt;
+      heading_yield_rad = its 29 tt;
+      heading_yield_rate_radps = its 30 tt;
+      heading_yield_s = its 31 tt;
+      wind_heading_min_mps = its 32 tt;
+      wind_heading_from_wind_rad = its 33 tt;
+      wind_heading_max_sd_rad = its 34 tt;
+      wind_heading_deadband_rad = its 35 tt;
+      airborne_height_m = its 36 tt;
+      feedforward_hold_band_mps = its 37 tt;
+      min_thrust = its 38 tt;
+      sink_limit_mps = its 39 tt;
+      sink_gain = its 40 tt;
+      max_boost_thrust = its 41 tt;
+      ballistic_kgpm2_x = its 42 tt;
+      ballistic_kgpm2_y = its 43 tt;
+      momentum_per_s_x = its 44 tt;
+      momentum_per_s_y = its 45 tt;
+      force_noise_mps2 = its 46 tt;
+      process_noise_mps_per_rt_s = its 47 tt;
+      initial_sd_mps = its 48 tt;
+      gate_sigma = its 49 tt;
+      max_axial_speed_mps = its 50 tt;
     }
+  where
+    its : (n : ℕ) → T (leb 1 n && leb n field_count) → T (rule n (nth values n))
+    its n inside = let bounds = (both (leb 1 n) (leb n field_count)).0 inside in keeps n (lit≤ bounds.0) (lit≤ bounds.1)
 
 -- ---- and back
 

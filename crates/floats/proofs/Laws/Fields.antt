@@ -1,6 +1,7 @@
 -- What a bit pattern is worth, by its fields, over both formats. Assumes nothing.
-use Rattle.std.proofs.Common.{◌≡◌, ℕ, zero, suc, ◌+◌, ◌-◌, ◌*◌, ◌/◌, ◌%◌, ◌^◌, ◌<◌, min, Bool, true, false, cond, eqb, leb, sym, refl, true≢false, div-lt_iff_lt-mul, zero-add, zero-mul, arith, pow_pos, eq-eqb, ne_eqb}
-use lib.Ieee.{nan, inf, Format, prec, emax, low, is_nan, hid, ones, top, of_fields, of_bits}
+use Rattle.std.proofs.Common.{◌≡◌, ℕ, zero, suc, ◌+◌, ◌-◌, ◌*◌, ◌/◌, ◌%◌, ◌^◌, ◌<◌, min, Bool, true, false, not, cond, eqb, leb, sym, refl, true≢false, div-lt_iff_lt-mul, zero-add, zero-mul, arith, pow_pos, eq-eqb, ne_eqb, le-leb}
+use lib.Ieee.{nan, inf, Format, binary32, binary64, prec, emax, low, odd, neg, is_nan, hid, ones, top, of_fields, of_bits}
+use borrow.Author.Tests.{lt-leb}
 use lib.Ieee.Exact.{HasValue, odd_sign}
 
 one : (x : ℕ) → min 1 (suc x) ≡ 1
@@ -46,3 +47,33 @@ of_bits_infinite f b e = at (b % top f / hid f) e
     at : (x : ℕ) → x ≡ ones f → is_nan (of_fields f (leb (top f) b) x (b % hid f)) ≡ false → of_fields f (leb (top f) b) x (b % hid f) ≡ inf (leb (top f) b)
     at zero h = absurd (no_field (emax f) h)
     at (suc x) h = fields_top f (leb (top f) b) x (b % hid f) h
+
+-- ---- a pattern below the sign's bit, and with it: the same float with its sign flipped
+neg_odd : (p : ℕ) (s : Bool) (q k l : ℕ) → neg (odd p s q k l) ≡ odd p (not s) q k l
+unfolding neg odd
+neg_odd p s zero k l = refl
+neg_odd p s (suc q) k l = refl
+
+neg_fields : (f : Format) (s : Bool) (x t : ℕ) → neg (of_fields f s x t) ≡ of_fields f (not s) x t
+unfolding of_fields neg
+neg_fields f s zero t = neg_odd (prec f) s t 0 (low f)
+neg_fields f s (suc x) t = go (eqb (suc x) (ones f)) (eqb t 0)
+  where
+    go : (a b : Bool) → neg (cond a (cond b (inf s) nan) (odd (prec f) s (hid f + t) x (low f))) ≡ cond a (cond b (inf (not s)) nan) (odd (prec f) (not s) (hid f + t) x (low f))
+    go true true = refl
+    go true false = refl
+    go false b = neg_odd (prec f) s (hid f + t) x (low f)
+
+pub negated : (f : Format) (b : ℕ) → b < top f → neg (of_bits f b) ≡ of_bits f (b + top f)
+unfolding of_bits
+negated f b h =
+    rw (lt-leb (top f) b h, le-leb (top f) (b + top f) (omega arith), same_size f b, same_digits f b)
+    (neg_fields f false (b % top f / hid f) (b % hid f))
+  where
+    same_size : (g : Format) (c : ℕ) → (c + top g) % top g ≡ c % top g
+    same_size binary32 c = omega arith
+    same_size binary64 c = omega arith
+
+    same_digits : (g : Format) (c : ℕ) → (c + top g) % hid g ≡ c % hid g
+    same_digits binary32 c = omega arith
+    same_digits binary64 c = omega arith

@@ -1,12 +1,13 @@
 -- The sign of a float is the highest bit of its pattern, and the rest is the pattern of its size, over both formats. Assumes nothing.
-use Rattle.std.proofs.Common.{◌≡◌, ℕ, ◌+◌, ◌*◌, ◌%◌, ◌<◌, Bool, true, false, cond, T, leb, pos, refl, ap, ◌∙◌, true≢false, le-add_right, add_assoc, mod-eq_of_lt, zero-add, arith, lit<, le-leb}
+use Rattle.std.proofs.Common.{◌≡◌, ℕ, ◌+◌, ◌*◌, ◌%◌, ◌<◌, Bool, true, false, cond, T, leb, refl, ap, ◌∙◌, true≢false, le-add_right, add_assoc, mod-eq_of_lt, zero-add, arith, lit<, le-leb}
 use native.Mathlib.Nat.{add-mod_left}
 use lib.Ieee.{Float, nan, inf, fin, Format, binary32, binary64, top, fits, is_nan, neg, to_bits, of_bits}
-use lib.Ieee.Bits.{to_bits-lt, of_bits-to_bits}
+use lib.Ieee.Bits.{to_bits-lt, of_bits-to_bits, nan_bits_is}
 use lib.Ieee.Fits.{neg-fits}
 use borrow.Author.Tests.{lt-leb}
+use Rattle.floats.specs.Ops.{f32}
 use Rattle.floats.specs.Compare.{abs, is_negative, signum}
-use Rattle.floats.proofs.Laws.Order.{abs_fits}
+use Rattle.floats.proofs.Laws.Order.{abs_fits, abs_number}
 
 -- the pattern is a sign's bit and the size's pattern
 pub to_bits_splits : (f : Format) (x : Float) → to_bits f x ≡ cond (is_negative x) (top f) 0 + to_bits f (abs x)
@@ -44,8 +45,13 @@ clear_sign f x h =
     cleared true t b l = add-mod_left t b ∙ mod-eq_of_lt l
     cleared false t b l = ap (λ (c : ℕ). c % t) (zero-add b) ∙ mod-eq_of_lt l
 
-pub signum_by_sign : (x : Float) → is_nan x ≡ false → signum x ≡ fin (is_negative x) 1 (pos 0)
-unfolding signum is_negative is_nan
+-- how `abs` reads the size's pattern
+pub ruleset cleared = (clear_sign, nan_bits_is, abs_number)
+
+pub signum_by_sign : (x : Float) → is_nan x ≡ false → signum x ≡ cond (is_negative x) (neg (f32 0x3F80_0000)) (f32 0x3F80_0000)
+unfolding signum is_negative is_nan neg of_bits
 signum_by_sign nan n = absurd (true≢false n)
-signum_by_sign (inf s) n = refl
-signum_by_sign (fin s m e) n = refl
+signum_by_sign (inf true) n = refl
+signum_by_sign (inf false) n = refl
+signum_by_sign (fin true m e) n = refl
+signum_by_sign (fin false m e) n = refl

@@ -1,13 +1,13 @@
 -- sinf and cosf: what they give for a NaN, the infinities and the zeros, that each result is an `f32`, results of libm, and one form for two that the
 -- definitions choose between by a comparison. Assumes nothing.
-use Rattle.std.proofs.Common.{◌≡◌, ℕ, Bool, true, false, cond, not, T, ◌⊎◌, List, [], ◌∷◌, map, pos, sym, refl, ap, ◌∙◌, subst, inl, inr, ⊎_elim}
-use lib.Ieee.{Float, nan, inf, fin, Format, binary32, fits, is_nan, of_bits, to_bits, lt, le, eq, add, sub, mul, neg}
+use Rattle.std.proofs.Common.{◌≡◌, ◌+◌, ◌%◌, arith, ℕ, Bool, true, false, cond, not, T, ◌⊎◌, List, [], ◌∷◌, map, pos, sym, refl, ap, ◌∙◌, subst, inl, inr, ⊎_elim}
+use lib.Ieee.{Float, nan, inf, fin, Format, binary32, binary64, fits, is_nan, of_bits, to_bits, lt, le, eq, add, sub, mul, neg}
 use lib.Ieee.Bits.{is_true, of_bits-fits}
 use lib.Ieee.Fits.{neg-fits, cond-fits}
-use Rattle.floats.specs.Ops.{f32}
+use Rattle.floats.specs.Ops.{f32, ◌⊞◌, ◌⊟◌}
 use Rattle.floats.specs.Compare.{abs, is_negative}
 use Rattle.floats.specs.Narrow.{convert}
-use Rattle.floats.specs.SinCos.{k_sinf, k_cosf, by_quadrant, quadrant, rem_pio2f, sinf_near, sinf_far, sinf_reduced, sinf, cosf_near, cosf_far, cosf_reduced, cosf}
+use Rattle.floats.specs.SinCos.{turns, pio2_times_1, pio2_times_3, negative, k_sinf, k_cosf, by_quadrant, quadrant, rem_pio2f, sinf_near, sinf_far, sinf_reduced, sinf, cosf_near, cosf_far, cosf_reduced, cosf}
 use Rattle.floats.proofs.Laws.Order.{number, +0, -0, le_or_lt, lt_not_le, float_le_antisymm, float_le_trans, eq→le, zeros_equal, eq→same, positive_above, negative_below, neg_neg}
 use Rattle.floats.proofs.Laws.Round.{zero_fits, convert_in_format}
 use Rattle.floats.proofs.Laws.Sum.{float_add_comm, add-zero}
@@ -20,6 +20,14 @@ sinf_nan = refl
 pub cosf_nan : cosf nan ≡ nan
 unfolding cosf cosf_reduced by_quadrant quadrant rem_pio2f k_sinf k_cosf convert of_bits to_bits abs lt eq le add sub mul neg
 cosf_nan = refl
+
+-- ---- no quarter turn more
+quadrant_mod : (n : ℕ) → (n % 4 + 0) % 4 ≡ n % 4
+quadrant_mod n = omega arith
+
+pub no_turn : (x : Float) → by_quadrant ((quadrant x + 0) % 4) (rem_pio2f x) ≡ sinf_reduced x
+unfolding sinf_reduced quadrant
+no_turn x = ap (λ (n : ℕ). by_quadrant n (rem_pio2f x)) (quadrant_mod (to_bits binary64 (turns x)))
 
 -- ---- the size by a comparison with zero: only -0 is not below zero and has another size
 not_below : (x : Float) → T (number x) → T (not (is_negative x)) → lt x +0 ≡ false
@@ -70,6 +78,23 @@ module _ (f g : Format) (x a : Float) (good : fits g x ≡ true) (q : T (fits f 
   pub size_less_angle : T (not (eq (neg a) +0)) → cond (lt x +0) (sub f (neg x) a) (sub f x a) ≡ sub f (abs x) a
   size_less_angle n =
       ⊎_elim (λ e. flipped_less f a x (lt x +0) ∙ ap (λ (y : Float). sub f y a) (sym e)) (λ e. rw e (zero_less n)) (by_comparison g x (subst T (sym good) tt))
+
+-- the angles that the definitions choose so
+first_nonzero : T (not (eq pio2_times_1 +0))
+unfolding of_bits eq
+first_nonzero = tt
+
+third_nonzero : T (not (eq (neg pio2_times_3) +0))
+unfolding of_bits eq neg
+third_nonzero = tt
+
+pub near_size : (x : Float) → fits binary32 x ≡ true → cond (negative x) (x ⊞ pio2_times_1) (pio2_times_1 ⊟ x) ≡ pio2_times_1 ⊟ abs x
+unfolding of_bits
+near_size x good = angle_less_size binary64 binary32 x pio2_times_1 good (of_bits-fits binary64 0x3FF9_21FB_5444_2D18) first_nonzero
+
+pub far_size : (x : Float) → fits binary32 x ≡ true → cond (negative x) (neg x ⊟ pio2_times_3) (x ⊟ pio2_times_3) ≡ abs x ⊟ pio2_times_3
+unfolding of_bits
+far_size x good = size_less_angle binary64 binary32 x pio2_times_3 good (of_bits-fits binary64 0x4012_D97C_7F33_21D2) third_nonzero
 
 -- ---- the infinities and the zeros
 pub sinf_inf : (s : Bool) → sinf (inf s) ≡ nan

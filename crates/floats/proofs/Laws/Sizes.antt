@@ -1,6 +1,7 @@
 -- The patterns of sizes stand in the order of the sizes, over any format, and a NaN's pattern is above them all: so a size is compared by its pattern.
 -- Assumes nothing.
-use Rattle.std.proofs.Common.{◌≡◌, ℕ, ◌+◌, ◌-◌, ◌*◌, ◌/◌, ◌%◌, ◌^◌, ◌<◌, ◌≤◌, Bool, true, false, cond, not, T, eqb, ltb, leb, ℤ, sym, ap, ◌∙◌, subst, ⊎_elim, zero-le, le_trans, le_of_eq, le_refl, lt_of_lt_of_le, lt_of_le_of_lt, le_of_lt, add-le-add, mul-le-mul_right, mod-lt, mod-eq_of_lt, suc-mul, le_antisymm, eq-or-lt_of_le, le-div_iff_mul-le, zero-add, mul_right_comm, not-le_of_lt, arith, lit<, le→leb, eqb→eq, ltb→lt, lt→ltb, leb→le, pow_pos, pow-add, ltb-false, le-ltb, lt-ltb, eq-eqb, ne_eqb, le-leb}
+use Rattle.std.proofs.Common.{◌≡◌, ℕ, ◌+◌, ◌-◌, ◌*◌, ◌/◌, ◌%◌, ◌^◌, ◌<◌, ◌≤◌, Bool, true, false, cond, not, T, eqb, ltb, leb, ℤ, refl, sym, ap, ◌∙◌, subst, ⊎_elim, zero-le, le_trans, le_of_eq, le_refl, lt_of_lt_of_le, lt_of_le_of_lt, le_of_lt, add-le-add, mul-le-mul_right, mod-lt, mod-eq_of_lt, suc-mul, le_antisymm, eq-or-lt_of_le, le-div_iff_mul-le, zero-add, mul_right_comm, not-le_of_lt, arith, lit<, le→leb, eqb→eq, ltb→lt, lt→ltb, leb→le, pow_pos, pow-add, ltb-false, le-ltb, lt-ltb, eq-eqb, ne_eqb, le-leb}
+use Rattle.std.proofs.lemmas.Float.{T_from_true}
 use lib.Pow.{shr_mono}
 use lib.Ieee.{Float, nan, inf, fin, Format, binary32, binary64, prec, low, up, down, size, hid, ones, top, fits, is_nan, neg, le, lt, eq, nan_bits, of_bits, to_bits}
 use lib.Ieee.Bits.{of_bits-to_bits, to_bits-of_bits, of_bits-fits, nan_bits_is, nan_bits_above, is_false}
@@ -10,7 +11,7 @@ use lib.Ieee.Nearest.{div_mono}
 use borrow.Author.Tests.{lt-leb}
 use Rattle.floats.specs.Compare.{abs, is_negative}
 use Rattle.floats.proofs.Laws.Sign.{sign_bit, size_below_top, clear_sign}
-use Rattle.floats.proofs.Laws.Special.{up_to_infinity}
+use Rattle.floats.proofs.Laws.Special.{is_nan_lem, up_to_infinity}
 use Rattle.floats.proofs.Laws.Round.{twice_pow}
 use Rattle.floats.proofs.Laws.Order.{abs_is, eq→le, eq→ge, eq_refl, lt_irrefl, number, le_or_lt, lt→le, le_iff, le_not_lt, abs_fits, abs_number, float_le_refl, same_test}
 
@@ -196,6 +197,9 @@ module _ (f : Format) (c : ℕ) (inside : c ≤ ones f * hid f) where
     pub equals_false : (r ≡ c → ⊥) → eq (abs x) (of_bits f c) ≡ false
     equals_false h = eq_pattern x fitting ∙ ne_eqb (to_bits f (abs x)) c (λ k. h (e ∙ k))
 
+-- how tests for a NaN and of a size by its pattern are read
+pub ruleset by_pattern = (is_nan_lem, upto_true, upto_false, below_true, below_false, reaches_true, reaches_false, equals_true, equals_false)
+
 -- ---- the pattern without its highest bit is that of the size
 pub size_pattern : (f : Format) (x : Float) → T (fits f x) → T (number x) → to_bits f x % top f ≡ to_bits f (abs x)
 size_pattern f x p n =
@@ -210,3 +214,9 @@ size_pattern f x p n =
 
     lower : (a t : ℕ) → 0 < t → a % t < 2 * t
     lower a t h = omega (arith, mod-lt a h)
+
+pub size_of_bits : (x : Float) → fits binary32 x ≡ true → to_bits binary32 x % top binary32 ≡ to_bits binary32 (abs x)
+unfolding to_bits abs is_nan
+size_of_bits nan p = refl
+size_of_bits (inf s) p = size_pattern binary32 (inf s) (T_from_true _ p) tt
+size_of_bits (fin s m e) p = size_pattern binary32 (fin s m e) (T_from_true _ p) tt

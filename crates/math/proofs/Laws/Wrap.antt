@@ -7,6 +7,7 @@ use Prim.Native.Nat.{ℕ, zero as zeroℕ, suc, ◌*◌, ◌%◌, ◌^◌, ◌�
 use native.Mathlib.Nat.{mod-lt}
 use native.Mathlib.Omega.{arith}
 use lib.Dec.{T, not_T, leb, leb→le, nleb→lt, lit<}
+use Rattle.std.proofs.lemmas.Float.{T_from_true}
 use lib.Pow.{pow_pos}
 use lib.Ieee.{Float, nan, inf, fin, binary32, round, neg, add, sub, rem, lt, le, fits, is_nan, of_bits}
 use lib.Ieee.Bits.{is_true, is_false}
@@ -15,12 +16,12 @@ use lib.Ieee.Positive.{num, den, den_pos, positive, positive-finite, between}
 use lib.Ieee.Scale.{finite}
 use Rattle.floats.specs.Ops.{f32, ◌⊕◌, ◌⊖◌}
 use Rattle.floats.specs.Compare.{abs, is_negative}
-use Rattle.floats.proofs.Laws.Order.{finite→number, le_numbers, le_or_lt, lt→le, lt_excludes, float_le_trans, le_lt_trans, finite_between, neg_neg, neg_le}
+use Rattle.floats.proofs.Laws.Order.{number, finite→number, le_numbers, lt_numbers, lt_not_le, le_or_lt, lt→le, lt_excludes, float_le_trans, le_lt_trans, finite_between, neg_neg, neg_le}
 use Rattle.floats.proofs.Laws.Round.{AtMost, Less, fractions_of_lt, own_fraction, le_of_fractions}
 use Rattle.floats.proofs.Laws.Round.{round_zero, round_nonneg, round_at_most, round_at_least, round_below}
 use Rattle.floats.proofs.Laws.Fractions.{rem_rounds}
 use Rattle.floats.proofs.Laws.Grid.{large_on_grid}
-use Rattle.floats.proofs.Laws.Remainder.{rem_of_smaller, rem_inside, above_opposite}
+use Rattle.floats.proofs.Laws.Remainder.{rem_of_smaller, rem_inside, above_opposite, below_divisor}
 use Rattle.floats.proofs.Laws.Sterbenz.{sterbenz_add_back, sterbenz_sub_back}
 use Rattle.floats.proofs.Laws.Sum.{add_mono, sub_mono, add_finite, add_finite_number, number_add, number_sub}
 use Rattle.math.specs.Math.{zero, pi, tau, half_pi, rem_euclid, wrap_angle}
@@ -189,6 +190,18 @@ pub rem_euclid_inside : (v d : Float) → T (fits binary32 v) → T (le zero v) 
 unfolding rem_euclid of_bits
 rem_euclid_inside v d p h l =
     rw (rem_inside binary32 v d p (above_opposite v d h l) l, is_false (lt v zero) (not_T (lt v zero) (λ n. lt_excludes v zero n h)))
+
+-- below zero is not at least zero
+negative_by : (v : Float) → T (number v) → lt v zero ≡ not (le zero v)
+unfolding is_nan of_bits
+negative_by v n = lt_not_le v zero n tt
+
+pub rem_euclid_negative : (v d : Float) → T (fits binary32 v) → le zero v ≡ false → lt (neg d) v ≡ true → rem_euclid v d ≡ v ⊕ d
+unfolding rem_euclid of_bits
+rem_euclid_negative v d p h k =
+    let l = T_from_true _ k in
+    let e : lt v zero ≡ true = negative_by v (lt_numbers (neg d) v l).1 ∙ ap not h in
+    rw (rem_inside binary32 v d p l (below_divisor v d (T_from_true _ e) l), e)
 
 -- the remainder less π and plus π again
 back_in_range : (r : Float) → T (le zero r) → T (le r below_tau) → T (le zero (r ⊖ pi ⊕ pi)) × T (le (r ⊖ pi ⊕ pi) below_tau)

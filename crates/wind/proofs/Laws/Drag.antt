@@ -1,12 +1,13 @@
 -- The drag's slope is the same for an air velocity and its opposite, and the slope that the code hands on with an air velocity is the drag's slope there.
 -- Assumes nothing.
-use Rattle.std.proofs.Common.{◌≡◌, Bool, true, false, cond, refl, ap, sym, ◌∙◌}
+use Rattle.std.proofs.Common.{◌≡◌, ℕ, zero, suc, ◌<◌, Bool, true, false, cond, refl, ap, sym, ◌∙◌}
 use Rattle.std.specs.Prelude.{Option, Some, None}
+use native.Mathlib.Omega.{arith}
 use lib.Ieee.{Float, binary32, neg, lt}
 use Rattle.floats.proofs.Laws.Product.{neg_square}
 use Rattle.floats.specs.Ops.{◌⊘◌}
 use Rattle.floats.specs.Compare.{abs}
-use Rattle.math.specs.Math.{zero}
+use Rattle.math.specs.Math as math
 use Rattle.wind.specs.declared.drag.AxisDrag.{AxisDrag}
 use Rattle.wind.specs.declared.drag.AirVelocity.{AirVelocity}
 use Rattle.wind.specs.Drag.{slope, still_air, newton_step, against, air_velocity}
@@ -21,18 +22,34 @@ slope_neg axis air axial = rw (neg_square binary32 air)
 
 pub slope_against : (axis : AxisDrag) (force speed axial : Float) → slope axis (against force speed) axial ≡ slope axis speed axial
 unfolding against
-slope_against axis force speed axial = go (lt zero force)
+slope_against axis force speed axial = go (lt math.zero force)
   where
     go : (b : Bool) → slope axis (cond b (neg speed) speed) axial ≡ slope axis speed axial
     go true = slope_neg axis speed axial
     go false = refl
+
+-- ---- the steps of Newton's method
+
+module _ (axis : AxisDrag) (wanted axial : Float) where
+  -- the speed after n steps
+  unfoldable pub stepped : ℕ → Float → Float
+  stepped zero speed = speed
+  stepped (suc n) speed = newton_step axis wanted axial (stepped n speed)
+
+  -- a speed that a step leaves as it was is left so by any number of them
+  pub stays : (n : ℕ) → n < 3 → (speed : Float) → stepped n speed ≡ stepped (suc n) speed → stepped 3 speed ≡ stepped n speed
+  unfolding stepped
+  stays zero few speed kept = sym (kept ∙ ap (stepped 1) kept ∙ ap (stepped 2) kept)
+  stays (suc zero) few speed kept = sym (kept ∙ ap (stepped 1) kept)
+  stays (suc (suc zero)) few speed kept = sym kept
+  stays (suc (suc (suc n))) few speed kept = absurd (omega (arith, few))
 
 -- ---- what is handed on
 
 module _ (axis : AxisDrag) (force axial : Float) where
   pub slope_handed_on : air_and_slope axis force axial ≡ with_slope axis axial (air_velocity axis force axial)
   unfolding air_and_slope with_slope air_velocity three_steps
-  slope_handed_on = go (lt zero axis.k_per_m) (lt zero axis.mu_per_s)
+  slope_handed_on = go (lt math.zero axis.k_per_m) (lt math.zero axis.mu_per_s)
     where
       refined : Float → Float
       refined = newton_step axis (abs force) axial
@@ -48,6 +65,9 @@ module _ (axis : AxisDrag) (force axial : Float) where
       go true c = rw (slope_against axis force fourth axial)
       go false true = refl
       go false false = refl
+
+  pub steps_as_source : (air : Option AirVelocity) → air ≡ air_and_slope axis force axial → air ≡ with_slope axis axial (air_velocity axis force axial)
+  steps_as_source air e = e ∙ slope_handed_on
 
   pub air_handed_on : (air rise : Float) → Some (along air rise) ≡ air_and_slope axis force axial
       → (air_velocity axis force axial ≡ Some air) × (rise ≡ slope axis air axial)

@@ -1,7 +1,6 @@
 -- `buffers::Buffer::run` meets its contract. Assumes nothing.
 use Rattle.std.proofs.Common.{◌≡◌, arith}
 use Rattle.buffers.specs.Turns.{out_of_turns, stopped, at_first, onward}
-use Rattle.buffers.proofs.Laws.Ended.{nothing_came}
 use Rattle.buffers.proofs.Buffer.run.Goals as goal
 
 pub loop-init : goal.loop-init
@@ -14,12 +13,12 @@ returns g c =
 
 pub returns-in_default : goal.returns-in_default
 returns-in_default g c =
-    let got = c.read_more-got in
-    let turn = rw (c.held.ensures.bytes, nothing_came _ _ _ got.ensures.count) at c.in_default.ensures in
-    stopped c.loop.invariant (got.ensures.reads, turn.within, turn.met)
+    let read = c.read_more-got.ensures in
+    let turn = rw c.held.ensures.bytes at c.in_default.ensures in
+    stopped c.loop.invariant (read.reads, read.gives, turn.within, turn.met)
 
 pub loop-preserved : goal.loop-preserved
 loop-preserved g c =
-    let got = c.read_more-got in
-    let turn = rw (c.held.ensures.bytes, nothing_came _ _ _ got.ensures.count) at c.in-Some.ensures in
-    rw c.drop_front.ensures (onward c.in-Some.taken c.loop.invariant (got.ensures.reads, turn.within, turn.met))
+    let read = c.read_more-got.ensures in
+    let turn = rw c.held.ensures.bytes at c.in-Some.ensures in
+    rw c.drop_front.ensures (onward c.in-Some.taken c.loop.invariant (read.reads, read.gives, turn.within, turn.met))

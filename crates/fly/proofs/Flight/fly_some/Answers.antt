@@ -1,5 +1,6 @@
 -- `fly::Flight::fly_some` meets its contract: what the records take is there, and their answers fit. Assumes nothing.
-use Rattle.std.proofs.Common.{sym}
+use Rattle.std.proofs.Common.{◌≤◌, length, IfSome, true, false, not, sym}
+use Rattle.std.specs.Bool.{then_some}
 use lib.Seq.{length-take-le}
 use Rattle.records.proofs.Laws.Flight.{flown_stands}
 use Rattle.fly.proofs.Flight.fly_some.Goals as goal
@@ -10,4 +11,8 @@ slice_bounds-write_all-end g c =
 
 pub returns : goal.returns
 returns g c =
-    (flown_stands c.fly-flown.result c.fly-flown.new.out c.args.self.now.craft c.args.input.now c.args.last c.args.self.now.output c.fly-flown.ensures).0
+    let within = (flown_stands c.fly-flown.result c.fly-flown.new.out c.args.self.now.craft c.args.input.now c.args.last c.args.self.now.output c.fly-flown.ensures).0 in
+    rw c.then_some.ensures (elim c.fly-flown.result.ended as (λ ended. IfSome (then_some (not ended) c.fly-flown.result.taken) (λ taken. taken ≤ length c.args.input.now)) [
+      | true ↦ tt
+      | false ↦ within
+    ])

@@ -2,8 +2,8 @@
 use Rattle.std.proofs.Common.{◌≤◌, length, ◌-◌}
 use Rattle.fly.proofs.FlightProgram.turn.Given as goal
 
-abbrev pub invariant-loop-some : goal.invariant-loop-some
-invariant-loop-some g l = l.taken ≤ length l.held
+abbrev pub invariant-loop-more : goal.invariant-loop-more
+invariant-loop-more g l = l.taken ≤ length l.held
 
-abbrev pub decreases-loop-some : goal.decreases-loop-some
-decreases-loop-some g l = length l.held - l.taken
+abbrev pub decreases-loop-more : goal.decreases-loop-more
+decreases-loop-more g l = length l.held - l.taken

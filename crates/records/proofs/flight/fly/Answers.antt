@@ -14,7 +14,7 @@ use Rattle.records.specs.Inner.{waiting, next, Served}
 use Rattle.records.proofs.Laws.Flight.{ready_some, ready_room, next_moves, rest_ended, rest_waiting}
 use Rattle.records.proofs.Underway.{Underway, set_off, one_more, waits_there}
 use Rattle.records.proofs.flight.fly.Goals as goal
-use Rattle.records.proofs.flight.fly.Goals.{After-serve-at, After-begin-at}
+use Rattle.records.proofs.flight.fly.Goals.{After-serve-at, After-begin-at, then-at-via-then-at, then-at-via-else-at+then-waits}
 
 -- ---- flights, over any bytes
 
@@ -63,13 +63,13 @@ come c = served_further c.loop-at.invariant.under c.serve-at.ensures
 pub returns-then-at : goal.returns-then-at
 returns-then-at c =
     let done = (goal.at.returns-then-at c).After-serve-at in
-    sym ((come done).same ∙ rest_ended c.args.last c.args.bytes.now (served_flight done) c.if-at.true)
-
-pub returns-then-waits : goal.returns-then-waits
-returns-then-waits c =
-    let done = (goal.at.returns-then-waits c).After-serve-at in
-    let held = waits_said c.args.bytes.now c.args.last c.serve-at.result c.serve-at.new.out c.waits.ensures c.if-waits.true in
-    sym ((come done).same ∙ rest_waiting c.args.last c.args.bytes.now (served_flight done) c.if-at.false held)
+    let bytes = c.args.bytes.now in
+    let last = c.args.last in
+    sym ((come done).same ∙ elim c.then-at.branch [
+      | then-at-via-then-at w ↦ rest_ended last bytes (served_flight done) w.if-at.true
+      | then-at-via-else-at+then-waits w ↦ rest_waiting last bytes (served_flight done) w.if-at.false
+          (waits_said bytes last c.serve-at.result c.serve-at.new.out w.waits.ensures w.if-waits.true)
+    ])
 
 pub begin-at-requires : goal.begin-at-requires
 begin-at-requires c =

@@ -1,11 +1,7 @@
 -- `wind::window::axis_corrected` meets its contract: the slope that it is handed is the drag's at the air velocity. Assumes nothing.
 use Rattle.wind.specs.Wind.{axis_corrected}
-use Rattle.wind.proofs.Laws.Drag.{air_handed_on, none_handed_on, noise_handed_on}
+use Rattle.wind.proofs.Laws.Drag.{air_handed_on, noise_handed_on}
 use Rattle.wind.proofs.window.axis_corrected.Goals as goal
-
-pub returns-in_default : goal.returns-in_default
-unfolding axis_corrected
-returns-in_default c = rw (none_handed_on _ _ _ c.in_default.ensures.in_steps)
 
 pub returns : goal.returns
 unfolding axis_corrected

@@ -1,0 +1,2 @@
+-- Lemmas of the contracts of this crate. Assumes nothing.
+pub mod Flags

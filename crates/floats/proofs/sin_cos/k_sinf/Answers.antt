@@ -1,9 +1,0 @@
--- `floats::sin_cos::k_sinf` meets its contract: each literal is the definition's pattern. Assumes nothing.
-use lib.Ieee.{of_bits, neg}
-use Rattle.std.proofs.Common.{rules}
-use Rattle.floats.specs.SinCos.{k_sinf}
-use Rattle.floats.proofs.sin_cos.k_sinf.Goals as goal
-
-pub returns : goal.returns
-unfolding k_sinf of_bits neg
-returns c = search rules

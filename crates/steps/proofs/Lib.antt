@@ -1,0 +1,2 @@
+-- The laws of specs/.
+pub mod Whole

@@ -2,12 +2,17 @@
 #![tactic(auto)]
 
 mod launcher;
+mod output;
+mod report;
 
 ghost use Rattle.std.specs.Prelude.{ℕ, ◌≡◌, ◌+◌, ◌-◌, ◌≤◌, ◌++◌, length, take, drop, replicate, List, []};
+ghost use Rattle.std.specs.Result.{result_ok};
 ghost use Rattle.buffers.specs.Buffers.{moved, Reads, Gives};
 
 pub use launcher::{Program, Reading};
-use std::io::Read;
+pub use output::Output;
+pub use report::status;
+use std::io::{self, Read};
 use std::marker::Model;
 
 // The bytes of a long buffer.
@@ -73,15 +78,15 @@ impl<const N: usize> Buffer<N> {
         self.try_read(reader).unwrap_or(0)
     }
 
-    // The same, but none where the read fails. The others that read hand on its `reads`.
-    pub fn try_read<R: Read>(&mut self, reader: &mut R) -> Option<usize>
+    // The same, but the reader's error where the read fails. The others that read hand on its `reads`.
+    pub fn try_read<R: Read>(&mut self, reader: &mut R) -> io::Result<usize>
         ensures reads { Reads (R.remaining reader.old) (R.remaining reader.new) self.old self.new }
-        ensures gives { Gives Reading.Once N result self.old self.new (R.remaining reader.new) }
+        ensures gives { Gives Reading.Once N (result_ok result) self.old self.new (R.remaining reader.new) }
     {
         let all = &mut self.bytes[..];
-        let got = reader.read(&mut all[self.held..]).ok()?;
+        let got = reader.read(&mut all[self.held..])?;
         self.held += got;
-        Some(got)
+        Ok(got)
     }
 
     // Reads until it is full, the input ends or a read fails, and gives the count of bytes read.
@@ -90,14 +95,14 @@ impl<const N: usize> Buffer<N> {
         ensures reads { Reads (R.remaining reader.old) (R.remaining reader.new) self.old self.new }
     {
         let before = self.held().len();
-        self.try_fill(reader);
+        let _ = self.try_fill(reader);
         self.held().len() - before
     }
 
-    // The same, but none where a read fails.
-    pub fn try_fill<R: Read>(&mut self, reader: &mut R) -> Option<usize>
+    // The same, but the reader's error where a read fails.
+    pub fn try_fill<R: Read>(&mut self, reader: &mut R) -> io::Result<usize>
         ensures reads { Reads (R.remaining reader.old) (R.remaining reader.new) self.old self.new }
-        ensures gives { Gives Reading.Full N result self.old self.new (R.remaining reader.new) }
+        ensures gives { Gives Reading.Full N (result_ok result) self.old self.new (R.remaining reader.new) }
     {
         let before = self.room();
         // Each read that goes on gives a byte, so `N` are enough.
@@ -106,7 +111,7 @@ impl<const N: usize> Buffer<N> {
                 break;
             }
         }
-        Some(before - self.room())
+        Ok(before - self.room())
     }
 
     // Drops the first `count` bytes and moves the others to the start.

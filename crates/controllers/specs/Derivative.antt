@@ -5,7 +5,7 @@ use Rattle.math.specs.Vectors.{zeros, minus, over}
 use Rattle.controllers.specs.declared.derivative.DerivativeState.{DerivativeState}
 use Rattle.controllers.specs.declared.derivative.DerivativeStep.{DerivativeStep}
 
--- at first and after a step whose error was not finite
+-- at first and once it was dropped
 abbrev pub no_history : DerivativeState
 no_history = record { previous_error = None }
 

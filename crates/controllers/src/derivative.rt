@@ -5,7 +5,7 @@ ghost use Rattle.controllers.specs.Derivative.{step, forget};
 
 use math::vectors::Vec2;
 
-// The error of the last step; none at first and after a step whose error was not finite.
+// The error of the last step; none at first and once it was dropped.
 #[derive(Clone, Copy, Default)]
 pub struct DerivativeState {
     pub previous_error: Option<Vec2>,

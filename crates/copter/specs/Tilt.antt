@@ -23,7 +23,7 @@ use Rattle.wind.specs.declared.estimate.WindEstimate.{WindEstimate}
 use Rattle.copter.specs.declared.tilt.Rotation.{Rotation}
 use Rattle.copter.specs.declared.tilt.Tilted.{Tilted}
 
--- ---- north and east, and the body's axes
+-- ---- north and east, and the body's axes: how the code divides the two steps below, which are stated without these
 
 abbrev pub rotation : Float → Rotation
 rotation heading = record { sin = sinf heading; cos = cosf heading }

@@ -1,8 +1,8 @@
 // The float leaves: what the layers above need of `f32` beyond its operators.
 //
 // Each exported function is total, and its contract is an equality, with a term made of the definitions of
-// specs/ and of `lib.Ieee`'s. A NaN has no sign and no payload there, so no contract says which bits a NaN
-// has.
+// specs/ and of `lib.Ieee`'s. There is one NaN there, with no sign and no payload, and 7FC00000 is the
+// pattern that it is written with.
 #![tactic(auto)]
 
 pub mod atan;

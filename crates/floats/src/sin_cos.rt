@@ -164,7 +164,8 @@ fn reduced(x: f32, turns: u64) -> f32
 }
 
 // The sine of x radians, up to 2^28 π/2 in size. A NaN and an infinity give a NaN, and a zero itself. `cosf`
-// tests the same ranges and answers otherwise in each: a form for both would be passed five functions.
+// tests the same ranges and answers otherwise in each: a form for both would be passed four
+// functions and a number of turns.
 #[tactic(auto, unfolding(crate::specs::SinCos::sinf), using(crate::proofs::Laws::Sizes::by_pattern, crate::proofs::Laws::SinCos::no_turn, crate::proofs::Laws::SinCos::sinf_nan))]
 pub fn sinf(x: f32) -> f32
     ensures { result ≡ sinf x }

@@ -2,60 +2,39 @@
 // answered before the next, so that answers come out as records come in.
 #![tactic(auto)]
 
-ghost use Rattle.std.specs.Prelude.{◌≤◌, length, IfSome};
+mod ending;
+mod flight;
 
-use buffers::{BUFFER, Buffer, Program, Reading};
-use records::craft::Craft;
-use std::io::Write;
+ghost use Rattle.std.specs.Prelude.{◌≡◌};
+ghost use Rattle.std.specs.Process.{exit_status};
+ghost use Rattle.records.specs.Craft.{unconfigured};
+ghost use Rattle.fly.specs.Flight.{Answered};
 
-// The craft between two reads, and the buffer of answers.
-#[derive(Drop)]
-struct Flight {
-    craft: Craft,
-    output: [u8; BUFFER],
-}
+use buffers::Output;
+use flight::Flight;
+use std::io::{Read, Write};
+use std::process::ExitCode;
 
-impl Flight {
-    // Flies as many records as a buffer of answers holds, and writes the answers. None where the write
-    // fails, and once the flight has ended.
-    fn fly_some<W: Write>(&mut self, input: &[u8], last: bool, writer: &mut W) -> Option<usize>
-        ensures { IfSome result (λ taken. taken ≤ length input.now) }
-    {
-        let output = &mut self.output[..];
-        let flown = records::flight::fly(self.craft, input, last, output);
-        self.craft = flown.craft;
-        writer.write_all(&output[..flown.written]).ok()?;
-        (!flown.ended).then_some(flown.taken)
+const NAME: &str = "fly";
+
+// Flies all that the reader gives, says on standard error what ended the flight or could not be read or written,
+// and gives the status that the program ends with, 0 only where all answers of the whole input are written.
+fn fly<E: Eprint, R: Read, W: Write>(rt: &E, reader: &mut R, output: &mut Output<W>) -> ExitCode
+    ensures { exit_status result ≡ 0 → Answered (R.remaining reader.old) (W.contents output.old.writer) unconfigured (W.contents output.new.writer) }
+{
+    let mut flight = Flight::new();
+    let read = flight.fly_all(reader, output);
+    if let Some(ending) = flight.ending {
+        let _ = eprintln!(rt; "{NAME}: {ending}");
+    }
+    let status = buffers::status(rt, NAME, read, output);
+    if flight.complete {
+        status
+    } else {
+        ExitCode::FAILURE
     }
 }
 
-// A turn flies all whole records, one buffer of answers after another. With no more to come, and where the
-// read failed, it is the last.
-impl Program for Flight {
-    fn turn<W: Write>(&mut self, held: &[u8], got: Option<usize>, writer: &mut W) -> Option<usize> {
-        let last = got.is_none_or(|count| count == 0);
-        let mut taken = 0;
-        // Each call says how many bytes its records took, so no iterator goes over them.
-        loop {
-            let more = self.fly_some(&held[taken..], last, writer)?;
-            if more == 0 {
-                break;
-            }
-            taken += more;
-        }
-        (!last).then_some(taken)
-    }
-}
-
-fn main(rt: HostRuntime) {
-    let mut flight = Flight {
-        craft: Craft::new(),
-        output: [0; BUFFER],
-    };
-    Buffer::<BUFFER>::new().run(
-        &mut flight,
-        Reading::Once,
-        &mut rt.reader(),
-        &mut rt.stdout(),
-    );
+fn main(rt: HostRuntime) -> ExitCode {
+    fly(&rt, &mut rt.reader(), &mut Output::new(rt.stdout()))
 }

@@ -23,7 +23,7 @@ pub struct Leg {
 // `leg` is the leg being flown: none outside waypoint flight, while a finite heading is commanded, and
 // from a new position on until the craft's own position is finite. `stuck_s` is the yield count: how long
 // the heading has been stuck on this leg, and it stays while `yielding`, in which the target is the craft's
-// own heading. The wind heading outlasts legs and land calls.
+// own heading unless the wind gives one. The wind heading outlasts legs and land calls.
 #[derive(Clone, Copy, Default)]
 pub struct LegHeading {
     pub leg: Option<Leg>,
@@ -74,7 +74,7 @@ pub struct Approach {
     pub on_station: bool,
 }
 
-// The memory with the yield count, which goes on either way, and whether the heading is yielded.
+// The memory with the yield count as it is after the call, and whether the heading is yielded.
 #[derive(Clone, Copy)]
 pub struct Yielded {
     pub memory: LegHeading,

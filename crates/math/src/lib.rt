@@ -178,8 +178,8 @@ pub fn neu_to_ned(v: Vec3) -> Vec3
     Vec3 { z: -v.z, ..v }
 }
 
-// The factor that keeps a thrust's vertical part while tilted: 1 / cos(tilt), at most 2, falling to
-// 0 as the tilt passes 84 degrees. An attitude that is not finite counts as level.
+// The factor that keeps a thrust's vertical part while tilted: 1 / cos(tilt), at most 2, falling from
+// a tilt of 84 degrees on to 0 at 90. It is 1 where the cosine is not finite.
 #[tactic(auto, unfolding(crate::specs::Math::tilt_boost, crate::specs::Math::tilt_cosine))]
 pub fn tilt_boost(attitude: Quaternion) -> f32
     ensures { result ≡ tilt_boost attitude }

@@ -14,14 +14,17 @@ mod math_rs;
 mod wind_rs;
 
 use block::Replay;
-use buffers::{BUFFER, Buffer, Reading};
+use buffers::{BUFFER, Buffer, Output, Reading};
+use std::process::ExitCode;
 
-fn main(rt: HostRuntime) {
+fn main(rt: HostRuntime) -> ExitCode {
     let mut replay = Replay::default();
-    Buffer::<BUFFER>::new().run(
+    let mut output = Output::new(rt.stdout());
+    let read = Buffer::<BUFFER>::new().run(
         &mut replay,
         Reading::Full,
         &mut rt.reader(),
-        &mut rt.stdout(),
+        &mut output,
     );
+    buffers::status(&rt, "replay", read, &output)
 }

@@ -6,20 +6,23 @@
 mod flight;
 mod memory;
 
-use buffers::{Buffer, Reading};
+use buffers::{Buffer, Output, Reading};
 use copter::config::FIELDS;
 use flight::Flight;
 use records::kinds::NUMBER;
+use std::process::ExitCode;
 
 // As long as the longest record, a configure: its kind and its fields.
 const INPUT: usize = 1 + FIELDS * NUMBER;
 
-fn main(rt: HostRuntime) {
+fn main(rt: HostRuntime) -> ExitCode {
     let mut flight = Flight::default();
-    Buffer::<INPUT>::new().run(
+    let mut output = Output::new(rt.stdout());
+    let read = Buffer::<INPUT>::new().run(
         &mut flight,
         Reading::Full,
         &mut rt.reader(),
-        &mut rt.stdout(),
+        &mut output,
     );
+    buffers::status(&rt, "steps", read, &output)
 }

@@ -6,7 +6,7 @@ use Rattle.std.specs.Float.Ieee.Scale.{finite}
 use Rattle.floats.specs.Ops.{f32, ◌⊕◌, ◌⊖◌, ◌⊗◌, ◌⊘◌}
 use Rattle.floats.specs.Compare.{abs}
 use Rattle.math.specs.Math.{zero, two, gravity, all_finite, neu_to_ned}
-use Rattle.math.specs.Vectors.{zeros, plus, over}
+use Rattle.math.specs.Vectors.{zeros, plus, over, dot3}
 use Rattle.math.specs.declared.vectors.Vec3.{Vec3}
 use Rattle.math.specs.declared.vectors.Quaternion.{Quaternion}
 use Rattle.wind.specs.declared.state.VehicleState.{VehicleState}
@@ -43,10 +43,6 @@ column r at = record { x = entry r 0 at; y = entry r 1 at; z = entry r 2 at }
 -- the columns of the rotation
 unfoldable pub body_axes : Quaternion → BodyAxes
 body_axes q = let r = rotation q in record { x = column r 0; y = column r 1; z = column r 2 }
-
--- from left to right
-abbrev pub dot3 : Vec3 → Vec3 → Float
-dot3 v w = v.x ⊗ w.x ⊕ v.y ⊗ w.y ⊕ v.z ⊗ w.z
 
 -- ---- the sample
 

@@ -11,11 +11,12 @@ use Rattle.floats.proofs.Laws.Order.{neg_finite}
 use Rattle.floats.proofs.Laws.Sum.{finite_parts}
 use Rattle.floats.proofs.Laws.Product.{finite_factors}
 use Rattle.math.specs.Math.{gravity, all_finite, neu_to_ned}
+use Rattle.math.specs.Vectors.{dot3}
 use Rattle.math.specs.declared.vectors.Vec3.{Vec3}
 use Rattle.math.specs.declared.vectors.Quaternion.{Quaternion}
 use Rattle.wind.specs.declared.state.VehicleState.{VehicleState}
 use Rattle.wind.specs.declared.sample.Sample.{Sample}
-use Rattle.wind.specs.Sample.{min_tilt_cosine, rotation, body_axes, dot3, specific_force_ned, sample_finite, along, from_state}
+use Rattle.wind.specs.Sample.{min_tilt_cosine, rotation, body_axes, specific_force_ned, sample_finite, along, from_state}
 
 pub either_way : {A : Type 0} (b : Bool) (x : A) → cond b x x ≡ x
 either_way true x = refl

@@ -14,11 +14,11 @@ returns g c =
 pub returns-in_default : goal.returns-in_default
 returns-in_default g c =
     let read = c.read_more-got.ensures in
-    let turn = rw c.held.ensures.bytes at c.in_default.ensures in
+    let turn = rw (c.held.ensures.bytes, c.ok.ensures.value) at c.in_default.ensures in
     stopped c.loop.invariant (read.reads, read.gives, turn.within, turn.met)
 
 pub loop-preserved : goal.loop-preserved
 loop-preserved g c =
     let read = c.read_more-got.ensures in
-    let turn = rw c.held.ensures.bytes at c.in-Some.ensures in
+    let turn = rw (c.held.ensures.bytes, c.ok.ensures.value) at c.in-Some.ensures in
     rw c.drop_front.ensures (onward c.in-Some.taken c.loop.invariant (read.reads, read.gives, turn.within, turn.met))

@@ -1,0 +1,4 @@
+-- The laws of specs/.
+pub mod Pieces
+pub mod Turning
+pub mod Whole

@@ -10,7 +10,8 @@ use oracle_parts::words::Writer;
 
 use crate::calls::{self, Ported, SEED, is_zero, words};
 use crate::mix::mix;
-use crate::pipes::start;
+use crate::pipes::{said, start};
+use crate::progress::Progress;
 
 /// The least bytes of entries in a batch. The program reads as many at a time, so that the batches that follow one always
 /// bring its answers out.
@@ -36,9 +37,10 @@ pub fn run(command: &[&str], calls: u64) -> Result<bool, String> {
     for ported in calls::ported() {
         let name = ported.function.name;
         let mut tally = Tally::default();
+        let progress = Progress::new(name, calls * calls::kinds().count() as u64, "calls");
         for kind in calls::kinds() {
-            compare(command, ported, kind, calls, &mut tally)
-                .map_err(|error| format!("{} with {name}: {error}", command.join(" ")))?;
+            compare(command, ported, kind, calls, &progress, &mut tally)
+                .map_err(|error| format!("{} with {name}: {error}{}", command.join(" "), said()))?;
         }
         println!("{name}: {} calls, {} differences, digest {:016x}", tally.calls, tally.differences, tally.digest);
         if let Some(first) = tally.first {
@@ -56,6 +58,7 @@ fn compare(
     ported: Ported,
     (kind_name, kind): (&str, Kind),
     calls: u64,
+    progress: &Progress,
     tally: &mut Tally,
 ) -> io::Result<()> {
     let (child, stdin, mut stdout) = start(&mut program(command))?;
@@ -73,6 +76,7 @@ fn compare(
         stdout.read_exact(&mut ours)?;
         let place = |calls: u64| format!("call {} of kind {kind_name}, seed {SEED}", calls - before);
         tally.batch(ported, &entries, &ours, &theirs.bytes, place);
+        progress.add((entries.len() / ported.entry_bytes()) as u64);
     }
     feeder.join().expect("the feeder ended")?;
     finish(child, &mut stdout)

@@ -6,43 +6,33 @@
 //!   differential sample STDIN STDOUT        writes a list of calls and the oracle's answers, for the program to replay
 
 mod calls;
+#[path = "../command.rs"]
+mod command;
 mod compare;
 mod memory;
 #[path = "../mix.rs"]
 mod mix;
 #[path = "../pipes.rs"]
 mod pipes;
+#[path = "../progress.rs"]
+mod progress;
 mod sample;
 
 use std::process::ExitCode;
+
+use command::number;
 
 const USAGE: &str = "usage: differential compare CALLS COMMAND..
        differential memory RECORDS COMMAND..
        differential sample STDIN STDOUT";
 
 fn main() -> ExitCode {
-    let arguments: Vec<String> = std::env::args().skip(1).collect();
+    let arguments = command::words();
     let arguments: Vec<&str> = arguments.iter().map(String::as_str).collect();
-    let done = match arguments[..] {
-        ["compare", calls, ref command @ ..] if !command.is_empty() => {
-            number(calls).and_then(|calls| compare::run(command, calls))
-        }
-        ["memory", records, ref command @ ..] if !command.is_empty() => {
-            number(records).and_then(|records| memory::run(command, records))
-        }
+    command::end(match arguments[..] {
+        ["compare", calls, ref command @ ..] if !command.is_empty() => compare::run(command, number(calls)),
+        ["memory", records, ref command @ ..] if !command.is_empty() => memory::run(command, number(records)),
         ["sample", stdin, stdout] => sample::write(stdin, stdout).map(|()| true),
-        _ => Err(USAGE.into()),
-    };
-    match done {
-        Ok(true) => ExitCode::SUCCESS,
-        Ok(false) => ExitCode::FAILURE,
-        Err(message) => {
-            eprintln!("{message}");
-            ExitCode::FAILURE
-        }
-    }
-}
-
-fn number(text: &str) -> Result<u64, String> {
-    text.parse().map_err(|_| format!("'{text}' is no number"))
+        _ => command::wrong_use(USAGE),
+    })
 }

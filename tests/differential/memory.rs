@@ -15,7 +15,8 @@ use oracle_parts::words::Writer;
 use crate::calls::{is_zero, words};
 use crate::compare::{finish, program};
 use crate::mix::mix;
-use crate::pipes::start;
+use crate::pipes::{said, start};
+use crate::progress::Progress;
 
 /// Flight files of a kind, from seed 1 on.
 const FILES: u64 = 8;
@@ -45,19 +46,22 @@ struct Tally {
     first: Option<String>,
 }
 
-/// Compares the memory after at least `records` records, split over the kinds that do not end a flight, and prints a line for
-/// each kind. Gives whether nothing differed.
+/// Compares the memory after at least `records` records, split over the kinds that do not end a flight but grid, which gets as
+/// many as each of them on top. Prints a line for each kind, and gives whether nothing differed.
 pub fn run(command: &[&str], records: u64) -> Result<bool, String> {
     let kinds = KINDS.into_iter().filter(|(_, kind)| *kind != Kind::Long);
-    let running = kinds.clone().filter(|(_, kind)| !ends(*kind)).count() as u64;
+    let running = kinds.clone().filter(|(_, kind)| !ends(*kind) && *kind != Kind::Grid).count() as u64;
     let mut total = Tally::default();
     for (name, kind) in kinds {
         let (files, records) =
             if ends(kind) { (SHORT_FILES, SHORT_RECORDS) } else { (FILES, records.div_ceil(running * FILES)) };
         let mut tally = Tally::default();
+        let progress = Progress::new(name, files * records, "records");
         for seed in 1..=files {
-            compare(command, kind, seed, records, &mut tally)
-                .map_err(|error| format!("{} with flight {seed} of kind {name}: {error}", command.join(" ")))?;
+            compare(command, kind, seed, records, &mut tally).map_err(|error| {
+                format!("{} with flight {seed} of kind {name}: {error}{}", command.join(" "), said())
+            })?;
+            progress.add(records);
         }
         println!("{name}: {}, digest {:016x}", tally.counts(), tally.digest);
         if let Some(first) = &tally.first {

@@ -3,12 +3,23 @@
 //! A line for each function: how many inputs, how many answers differ (two NaNs count alike), and a digest of the port's
 //! answers that does not depend on the order in which they were worked out.
 
+#[allow(dead_code)]
+#[path = "../command.rs"]
+mod command;
 #[path = "../mix.rs"]
 mod mix;
 mod port;
+#[path = "../progress.rs"]
+mod progress;
+
+use std::process::ExitCode;
+use std::thread;
 
 use mix::mix;
-use std::thread;
+use progress::Progress;
+
+/// Inputs after which a worker says how far it is.
+const STRETCH: u64 = 1 << 20;
 
 /// A NaN of any kind as 7FC00000.
 fn canonical(x: f32) -> u32 {
@@ -45,14 +56,19 @@ impl Tally {
     }
 }
 
-/// Splits 0..end over the machine's processors and adds up their tallies.
-fn over(end: u64, visit: impl Fn(u64, &mut Tally) + Copy + Send) -> Tally {
+/// Splits 0..end over the machine's processors and adds up their tallies. `name` is of what is worked out.
+fn over(name: &str, end: u64, visit: impl Fn(u64, &mut Tally) + Copy + Send) -> Tally {
     let workers = thread::available_parallelism().map_or(1, |n| n.get() as u64);
     let chunk = end.div_ceil(workers);
+    let progress = &Progress::new(name, end, "inputs");
     let run = move |worker: u64| {
         let mut tally = Tally::default();
-        for i in worker * chunk..((worker + 1) * chunk).min(end) {
-            visit(i, &mut tally);
+        let (mut done, end) = (worker * chunk, ((worker + 1) * chunk).min(end));
+        while done < end {
+            let stretch = STRETCH.min(end - done);
+            (done..done + stretch).for_each(|i| visit(i, &mut tally));
+            progress.add(stretch);
+            done += stretch;
         }
         tally
     };
@@ -79,7 +95,7 @@ fn every(
     theirs: impl Fn(f32) -> f32 + Copy + Send,
     wanted: impl Fn(f32) -> bool + Copy + Send,
 ) -> bool {
-    let tally = over(1 << 32, move |i, tally| {
+    let tally = over(name, 1 << 32, move |i, tally| {
         let x = f32::from_bits(i as u32);
         if wanted(x) {
             tally.take(i, canonical(ours(x)), canonical(theirs(x)));
@@ -135,18 +151,21 @@ fn pairs(
         let key = u64::from(x.to_bits()) << 32 | u64::from(y.to_bits());
         tally.take(mix(key), canonical(ours(x, y)), canonical(theirs(x, y)));
     };
-    let chosen = over(n * n, move |i, tally| visit(values[(i / n) as usize], values[(i % n) as usize], tally));
-    let drawn = over(random, move |i, tally| {
+    let (chosen_name, drawn_name) = (format!("{name} on special pairs"), format!("{name} on random pairs"));
+    let choose = move |i, tally: &mut Tally| visit(values[(i / n) as usize], values[(i % n) as usize], tally);
+    let chosen = over(&chosen_name, n * n, choose);
+    let drawn = over(&drawn_name, random, move |i, tally| {
         let (x, y) = random_pair(i);
         visit(x, y, tally);
     });
-    report(&format!("{name} on special pairs"), chosen) & report(&format!("{name} on random pairs"), drawn)
+    report(&chosen_name, chosen) & report(&drawn_name, drawn)
 }
 
 /// The narrowing on random patterns of `f64`, most with exponents where an `f32` is normal or subnormal, and on patterns at
 /// a tie or one off it.
 fn narrowing(random: u64) -> bool {
-    let tally = over(random, |i, tally| {
+    let name = "narrow on random patterns";
+    let tally = over(name, random, |i, tally| {
         let bits = mix(i);
         let near = (bits & 0x800f_ffff_ffff_ffff) | ((860 + mix(!i) % 300) << 52);
         let tie = (near & !0x1fff_ffff) | (0x1000_0000 + (bits >> 40) % 3 - 1);
@@ -155,7 +174,7 @@ fn narrowing(random: u64) -> bool {
             tally.take(pattern, canonical(port::narrow(x)), canonical(x as f32));
         }
     });
-    report("narrow on random patterns", tally)
+    report(name, tally)
 }
 
 /// Equal, or two zeros: which of two zeros min and max give is open.
@@ -166,7 +185,8 @@ fn either_zero(f: impl Fn(f32, f32) -> f32 + Copy) -> impl Fn(f32, f32) -> f32 +
     }
 }
 
-fn main() {
+fn main() -> ExitCode {
+    command::words();
     let all = |_: f32| true;
     let reduced = |x: f32| !(x.abs() > 1024.0) || x.is_infinite();
     let mut ok = true;
@@ -186,5 +206,5 @@ fn main() {
         if y.is_nan() { x } else { x.clamp(-y.abs(), y.abs()) }
     });
     println!("{}", if ok { "no differences" } else { "DIFFERENCES" });
-    std::process::exit(i32::from(!ok));
+    command::end(Ok(ok))
 }

@@ -4,12 +4,16 @@ use oracle_parts::generate::flights::{Flights, KINDS, Kind};
 
 use crate::document::{self, Entry};
 use crate::program::Program;
+use crate::progress::Progress;
 
 /// The most records of a file of flights that do not end early.
 const MOST_RECORDS: u64 = 1_000_000;
 
 /// The least number of files, each with a seed of its own, of such a kind.
 const LEAST_FILES: u64 = 3;
+
+/// Of the kinds that do not end early, those that share the records. Flights of kind grid come on top, as many as of each.
+const SHARING_KINDS: u64 = 8;
 
 /// Damaged and cut flights end their file. For this many records of all kinds there is one file of each.
 const RECORDS_FOR_A_SHORT_FILE: u64 = 4000;
@@ -35,20 +39,23 @@ struct Answers {
     refusals: [u64; 10],
 }
 
-/// Compares on `records` records of the kinds that do not end early, and on short files of the other two. Gives whether
-/// nothing differed.
+/// Compares on `records` records of the kinds that share them, on an equal share of grid flights, and on short files of the
+/// two kinds that end early. Gives whether nothing differed.
 pub fn run(port: &Program, records: u64) -> Result<bool, String> {
     let oracle = Program::oracle();
     let mut answers = Answers::default();
     let mut total = Tally::default();
     for (name, kind) in KINDS {
         let mut tally = Tally::default();
-        for (seed, records) in files(kind, records) {
+        let files = files(kind, records);
+        let progress = Progress::new(name, files.iter().map(|(_, records)| records).sum::<u64>(), "records");
+        for (seed, records) in files {
             let flight = flight(seed, records, kind);
             let (ours, theirs) = (port.answers(&flight)?, oracle.answers(&flight)?);
             let place = |record: usize| format!("record {record} of 'generate flights {seed} {records} {name}'");
             tally.file(&flight, &ours, &theirs, place);
             answers.count(&ours);
+            progress.add(records);
         }
         tally.print(name);
         total.add(&tally);
@@ -64,8 +71,7 @@ fn files(kind: Kind, records: u64) -> Vec<(u64, u64)> {
         // 5 to 200 records, every length as often.
         return (1..=records.div_ceil(RECORDS_FOR_A_SHORT_FILE)).map(|seed| (seed, 5 + seed * 37 % 196)).collect();
     }
-    let kinds = KINDS.len() as u64 - 2;
-    let share = records.div_ceil(kinds);
+    let share = records.div_ceil(SHARING_KINDS);
     let files = share.div_ceil(MOST_RECORDS).max(LEAST_FILES);
     (1..=files).map(|seed| (seed, share.div_ceil(files))).collect()
 }

@@ -6,6 +6,7 @@ use oracle_parts::encode::{self, State, Waypoint};
 
 use crate::document::{self, Entry};
 use crate::program::Program;
+use crate::progress::Progress;
 use crate::random::Random;
 
 /// Random files of each sort.
@@ -15,6 +16,7 @@ const RANDOM_FILES: u64 = 1000;
 struct Check<'a> {
     port: &'a Program,
     oracle: Program,
+    progress: Progress,
     files: u64,
     records: u64,
     differences: u64,
@@ -24,28 +26,40 @@ struct Check<'a> {
 
 /// Runs all sorts of files. Gives whether nothing differed.
 pub fn run(port: &Program) -> Result<bool, String> {
-    let mut check =
-        Check { port, oracle: Program::oracle(), files: 0, records: 0, differences: 0, digest: 0, failed: false };
-    check.file(&[], Some(&[]))?;
-    check.print("empty file");
-    check.truncations(&flight())?;
-    check.print("truncations");
-    check.kind_bytes(&flight())?;
-    check.print("kind bytes");
-    check.file(&fields_at_edges(), None)?;
-    check.print("fields at their edges");
-    check.file(&refusals_in_order(), None)?;
-    check.print("refusals in their order");
-    check.random_files(random_bytes)?;
-    check.print("random bytes");
-    check.random_files(random_bodies)?;
-    check.print("random bodies");
-    check.random_files(flipped_flight)?;
-    check.print("flights with random bytes in them");
+    let mut check = Check {
+        port,
+        oracle: Program::oracle(),
+        progress: progress(""),
+        files: 0,
+        records: 0,
+        differences: 0,
+        digest: 0,
+        failed: false,
+    };
+    check.sort("empty file", |check| check.file(&[], Some(&[])))?;
+    check.sort("truncations", |check| check.truncations(&flight()))?;
+    check.sort("kind bytes", |check| check.kind_bytes(&flight()))?;
+    check.sort("fields at their edges", |check| check.file(&fields_at_edges(), None))?;
+    check.sort("refusals in their order", |check| check.file(&refusals_in_order(), None))?;
+    check.sort("random bytes", |check| check.random_files(random_bytes))?;
+    check.sort("random bodies", |check| check.random_files(random_bodies))?;
+    check.sort("flights with random bytes in them", |check| check.random_files(flipped_flight))?;
     Ok(!check.failed)
 }
 
+fn progress(sort: &str) -> Progress {
+    Progress::new(sort, None, "files")
+}
+
 impl Check<'_> {
+    /// Runs a sort of files, and prints its line.
+    fn sort<T>(&mut self, name: &str, files: impl FnOnce(&mut Self) -> Result<T, String>) -> Result<(), String> {
+        self.progress = progress(name);
+        files(self)?;
+        self.print(name);
+        Ok(())
+    }
+
     /// Both programs on one file. What they have to write is `expected`, or else what document 01 and the oracle's
     /// numbers give. Gives what the port wrote.
     fn file(&mut self, flight: &[u8], expected: Option<&[u8]>) -> Result<Vec<u8>, String> {
@@ -54,6 +68,7 @@ impl Check<'_> {
         let theirs = self.oracle.answers(flight).map_err(place)?;
         let by_document = document::expected(flight, &theirs);
         self.files += 1;
+        self.progress.add(1);
         self.records += document::entries(flight).count() as u64;
         self.digest = document::digest(self.digest, &ours);
         if ours != theirs || ours != by_document || expected.is_some_and(|expected| ours != expected) {

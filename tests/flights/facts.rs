@@ -6,6 +6,7 @@ use oracle_parts::encode::{self, State, Waypoint};
 use oracle_parts::records::{ABSOLUTE_ATTITUDE, ATTITUDE, WIND};
 
 use crate::document;
+use crate::edges;
 use crate::program::Program;
 
 const NAN: u32 = 0x7FC0_0000;
@@ -68,6 +69,7 @@ fn facts() -> Vec<Fact> {
         infinite_wind(),
         infinite_heading(),
         nan_thrust(),
+        kept_pitch(),
     ]
 }
 
@@ -135,4 +137,9 @@ fn nan_thrust() -> Fact {
     };
     let flight = vec![configure(&[(1, 3e38), (3, 3e38)]), encode::waypoint(0.5, &state, &waypoint)];
     Fact { name: "thrust of NaN", flight, known: vec![(1, 3, vec![NAN])] }
+}
+
+fn kept_pitch() -> Fact {
+    let known = vec![(4, 1, vec![NEGATIVE_ZERO])];
+    Fact { name: "pitch of -0 after underflow", flight: edges::kept_pitch(), known }
 }

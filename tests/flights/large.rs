@@ -12,6 +12,7 @@ use oracle_parts::generate::flights::{Flights, Kind};
 
 use crate::document::{self, Entry};
 use crate::program::Program;
+use crate::progress::Progress;
 use crate::random::Random;
 
 const MEGABYTE: usize = 1_000_000;
@@ -22,6 +23,9 @@ const FLIGHT_MEGABYTES: u64 = 10;
 /// How much the peak of memory may grow, in kB.
 const MOST_GROWTH_KB: u64 = 200;
 
+/// Memory is read after the first repetition and after the last.
+const LEAST_REPETITIONS: u64 = 2;
+
 const RECORDS_ONE_BY_ONE: usize = 1000;
 
 /// How long an answer may take.
@@ -30,16 +34,19 @@ const PATIENCE: Duration = Duration::from_secs(20);
 /// Rounds in which the two programs take turns.
 const ROUNDS: usize = 7;
 
-/// Of the large flight, three tenths are flown for speed, from a file.
+/// Of the large flight, three tenths are flown for speed, from a file, but not more than this.
 const SPEED_FILE: &str = "tests/flights/target/speed.flight";
+const MOST_SPEED_MEGABYTES: u64 = 300;
 
 /// Runs all parts on a flight of `megabytes`. Gives whether each came out well.
 pub fn run(port: &Program, megabytes: u64) -> Result<bool, String> {
     let flight = long_flight();
     let answers = Program::oracle().answers(&flight)?;
     let one_by_one = one_by_one(port, &flight, &answers)?;
-    let memory = one_by_one && memory(port, &flight, &answers, megabytes.div_ceil(FLIGHT_MEGABYTES))?;
-    speed(port, &flight, (megabytes * 3).div_ceil(10 * FLIGHT_MEGABYTES))?;
+    let repetitions = megabytes.div_ceil(FLIGHT_MEGABYTES).max(LEAST_REPETITIONS);
+    let memory = one_by_one && memory(port, &flight, &answers, repetitions)?;
+    let speed_megabytes = (megabytes * 3).div_ceil(10).min(MOST_SPEED_MEGABYTES);
+    speed(port, &flight, speed_megabytes.div_ceil(FLIGHT_MEGABYTES))?;
     Ok(memory)
 }
 
@@ -101,6 +108,7 @@ fn memory(port: &Program, flight: &[u8], answers: &[u8], repetitions: u64) -> Re
     let (child, mut stdin, mut stdout) = port.start_piped()?;
     let mut written = vec![0; answers.len()];
     let mut peaks_kb = [0; 2];
+    let progress = Progress::new("memory", repetitions * FLIGHT_MEGABYTES, "MB");
     let mut same = true;
     for repetition in 1..=repetitions {
         let fed = thread::scope(|scope| {
@@ -110,6 +118,7 @@ fn memory(port: &Program, flight: &[u8], answers: &[u8], repetitions: u64) -> Re
         });
         fed.map_err(|error| port.message(&error.to_string()))?;
         same &= written == answers;
+        progress.add(FLIGHT_MEGABYTES);
         if repetition == 1 || repetition == repetitions {
             peaks_kb[usize::from(repetition > 1)] = peak_kb(child.id())?;
         }
@@ -135,15 +144,20 @@ fn peak_kb(process: u32) -> Result<u64, String> {
 /// Records a second of both programs on the same file, in turns: by the clock, and by the processor's time, which
 /// depends less on what else the machine does.
 fn speed(port: &Program, flight: &[u8], repetitions: u64) -> Result<(), String> {
-    write_repeated(flight, repetitions).map_err(|error| format!("{SPEED_FILE}: {error}"))?;
+    write_repeated(flight, repetitions).map_err(|error| {
+        let _ = fs::remove_file(SPEED_FILE);
+        format!("{SPEED_FILE}: {error}")
+    })?;
     let records = document::entries(flight).count() as f64 * repetitions as f64;
     let programs = [port, &Program::oracle()];
     let mut taken: [[Vec<f64>; 2]; 2] = Default::default();
+    let progress = Progress::new("speed", ROUNDS as u64, "rounds");
     for _ in 0..ROUNDS {
         for (program, taken) in programs.iter().zip(&mut taken) {
             let seconds = seconds(program)?;
             taken.iter_mut().zip(seconds).for_each(|(taken, seconds)| taken.push(records / seconds / 1e6));
         }
+        progress.add(1);
     }
     let _ = fs::remove_file(SPEED_FILE);
     let [[port_clock, port_processor], [oracle_clock, oracle_processor]] = taken.map(|both| both.map(median));

@@ -7,9 +7,13 @@
 //!   flights facts COMMAND..           flights whose answers a reader may not expect
 //!   flights large MEGABYTES COMMAND.. memory and speed on a large flight, and answers record by record
 
+#[path = "../command.rs"]
+mod command;
 mod compare;
 mod damage;
 mod document;
+#[path = "../edges.rs"]
+mod edges;
 mod facts;
 mod feeds;
 mod large;
@@ -18,11 +22,14 @@ mod mix;
 #[path = "../pipes.rs"]
 mod pipes;
 mod program;
+#[path = "../progress.rs"]
+mod progress;
 mod random;
 mod twins;
 
 use std::process::ExitCode;
 
+use command::number;
 use program::Program;
 
 const USAGE: &str = "usage: flights run RECORDS COMMAND..
@@ -33,27 +40,15 @@ const USAGE: &str = "usage: flights run RECORDS COMMAND..
        flights large MEGABYTES COMMAND..";
 
 fn main() -> ExitCode {
-    let arguments: Vec<String> = std::env::args().skip(1).collect();
+    let arguments = command::words();
     let arguments: Vec<&str> = arguments.iter().map(String::as_str).collect();
-    let done = match arguments[..] {
-        ["run", records, _, ..] => number(records).and_then(|n| compare::run(&Program::new(&arguments[2..]), n)),
-        ["twins", feeds, _, ..] => number(feeds).and_then(|n| twins::run(&Program::new(&arguments[2..]), n)),
-        ["wrong", feeds, _, ..] => number(feeds).and_then(|n| twins::run_wrong(&Program::new(&arguments[2..]), n)),
+    command::end(match arguments[..] {
+        ["run", records, _, ..] => compare::run(&Program::new(&arguments[2..]), number(records)),
+        ["twins", feeds, _, ..] => twins::run(&Program::new(&arguments[2..]), number(feeds)),
+        ["wrong", feeds, _, ..] => twins::run_wrong(&Program::new(&arguments[2..]), number(feeds)),
         ["damage", _, ..] => damage::run(&Program::new(&arguments[1..])),
         ["facts", _, ..] => facts::run(&Program::new(&arguments[1..])),
-        ["large", size, _, ..] => number(size).and_then(|n| large::run(&Program::new(&arguments[2..]), n)),
-        _ => Err(USAGE.into()),
-    };
-    match done {
-        Ok(true) => ExitCode::SUCCESS,
-        Ok(false) => ExitCode::FAILURE,
-        Err(message) => {
-            eprintln!("{message}");
-            ExitCode::FAILURE
-        }
-    }
-}
-
-fn number(text: &str) -> Result<u64, String> {
-    text.parse().map_err(|_| format!("'{text}' is no number"))
+        ["large", size, _, ..] => large::run(&Program::new(&arguments[2..]), number(size)),
+        _ => command::wrong_use(USAGE),
+    })
 }

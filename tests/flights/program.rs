@@ -60,7 +60,7 @@ impl Program {
     pub fn ended_well(&self, mut child: Child) -> Result<(), String> {
         match child.wait() {
             Ok(status) if status.success() => Ok(()),
-            Ok(status) => Err(self.message(&format!("it ended with {status}"))),
+            Ok(status) => Err(self.message(&format!("it ended with {status}{}", pipes::said()))),
             Err(error) => Err(self.message(&error.to_string())),
         }
     }

@@ -4,6 +4,7 @@
 use crate::document;
 use crate::feeds::{Feed, Pool, WAYS, Way};
 use crate::program::Program;
+use crate::progress::Progress;
 
 /// Feeds that come from one pool of records.
 const FEEDS_OF_A_POOL: u64 = 10;
@@ -50,7 +51,7 @@ struct Tally {
 pub fn run(port: &Program, feeds: u64) -> Result<bool, String> {
     let mut differences = 0;
     for (name, way) in WAYS {
-        let tally = compare(port, way, Wrong::No, feeds.div_ceil(WAYS.len() as u64))?;
+        let tally = compare(port, name, way, Wrong::No, feeds.div_ceil(WAYS.len() as u64))?;
         tally.print(name);
         if let Some(example) = &tally.example {
             println!("{example}");
@@ -66,8 +67,9 @@ pub fn run_wrong(port: &Program, feeds: u64) -> Result<bool, String> {
     let mut all_found = true;
     for (text, wrong, ways) in WRONGS {
         for (name, way) in WAYS.iter().filter(|(_, way)| ways.contains(way)) {
-            let tally = compare(port, *way, wrong, feeds)?;
-            tally.print(&format!("{text}, {name}"));
+            let name = format!("{text}, {name}");
+            let tally = compare(port, &name, *way, wrong, feeds)?;
+            tally.print(&name);
             all_found &= tally.differences > 0;
         }
     }
@@ -75,9 +77,10 @@ pub fn run_wrong(port: &Program, feeds: u64) -> Result<bool, String> {
     Ok(all_found)
 }
 
-fn compare(port: &Program, way: Way, wrong: Wrong, feeds: u64) -> Result<Tally, String> {
+fn compare(port: &Program, name: &str, way: Way, wrong: Wrong, feeds: u64) -> Result<Tally, String> {
     let mut tally = Tally::default();
     let pools = feeds.div_ceil(FEEDS_OF_A_POOL);
+    let progress = Progress::new(name, pools * FEEDS_OF_A_POOL, "feeds");
     let mut seed = 0;
     while seed < pools {
         let end = pools.min(seed + POOLS_OF_A_STREAM);
@@ -85,6 +88,7 @@ fn compare(port: &Program, way: Way, wrong: Wrong, feeds: u64) -> Result<Tally, 
         let stream = |twin: bool| feeds.iter().flat_map(|feed| list(feed, twin, wrong)).flatten().copied().collect();
         let (ours, twins): (Vec<u8>, Vec<u8>) = (stream(false), stream(true));
         tally.stream(&feeds, wrong, &port.answers(&ours)?, &port.answers(&twins)?)?;
+        progress.add(feeds.len() as u64);
         seed = end;
     }
     Ok(tally)

@@ -8,7 +8,7 @@ use oracle_parts::generate::{flights, inputs};
 
 const USAGE: &str = "usage: generate flights SEED RECORDS KIND > flight
        generate inputs NAME SEED CALLS KIND > words
-flight kinds: tame special any wide refused damaged cut steps long mixed
+flight kinds: tame special any wide refused damaged cut steps long mixed grid
 input kinds: tame special any wide mixed, and counting for functions of one word";
 
 fn main() -> ExitCode {

@@ -91,10 +91,10 @@ fn call(name: &str) -> io::Result<()> {
 
 /// Lists the functions: name, words in, words out.
 fn names() -> io::Result<()> {
-    for function in functions::all() {
-        println!("{} {} {}", function.name, function.inputs(), function.outputs);
-    }
-    Ok(())
+    let mut out = io::stdout().lock();
+    functions::all().try_for_each(|function| {
+        writeln!(out, "{} {} {}", function.name, function.inputs(), function.outputs)
+    })
 }
 
 /// Writes a configure record with the Rust's default configuration.

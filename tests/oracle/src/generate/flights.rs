@@ -1,9 +1,10 @@
 //! Flight files: flights one after the other, each begun by a configuration.
 //!
-//! Every kind starts from a simulated craft that follows its answers, so that the numbers stay
-//! plausible between the records that are disturbed.
+//! Every kind but grid starts from a simulated craft that follows its answers, so that the numbers
+//! stay plausible between the records that are disturbed.
 
 use super::disturb;
+use super::grid::Grid;
 use super::pilot::Pilot;
 use super::random::Random;
 use super::simulator::Simulator;
@@ -34,11 +35,13 @@ pub enum Kind {
     Steps,
     /// A single tame flight under one configuration, however many records it has.
     Long,
-    /// Each flight of one of the kinds that do not end the file.
+    /// Each flight of one of the kinds that do not end the file, but grid.
     Mixed,
+    /// Numbers on a coarse dyadic grid, so that comparisons are met at equality.
+    Grid,
 }
 
-pub const KINDS: [(&str, Kind); 10] = [
+pub const KINDS: [(&str, Kind); 11] = [
     ("tame", Kind::Tame),
     ("special", Kind::Special),
     ("any", Kind::Any),
@@ -49,6 +52,7 @@ pub const KINDS: [(&str, Kind); 10] = [
     ("steps", Kind::Steps),
     ("long", Kind::Long),
     ("mixed", Kind::Mixed),
+    ("grid", Kind::Grid),
 ];
 
 const MIXTURE: [Kind; 6] =
@@ -69,6 +73,8 @@ pub struct Flights {
     pilot: Pilot,
     /// Records that are due before anything else, the last one first.
     waiting: Vec<Vec<u8>>,
+    /// What makes the records of kind grid; the craft, simulator and pilot have no part in them.
+    grid: Grid,
 }
 
 impl Flights {
@@ -86,8 +92,11 @@ impl Flights {
             simulator,
             pilot,
             waiting: Vec::new(),
+            grid: Grid::new(),
         };
-        flights.begin_flight();
+        if kind != Kind::Grid {
+            flights.begin_flight();
+        }
         if matches!(kind, Kind::Refused | Kind::Damaged) {
             flights.fly_before_configuring();
         }
@@ -97,6 +106,7 @@ impl Flights {
     /// The next record. The last of a file may be cut short or have a kind that is none.
     pub fn next_record(&mut self, is_last: bool) -> Vec<u8> {
         let mut record = match self.waiting.pop() {
+            _ if self.kind == Kind::Grid => self.grid.next_record(&mut self.random),
             Some(record) => record,
             None => self.ordinary_record(),
         };

@@ -3,6 +3,7 @@
 
 mod disturb;
 pub mod flights;
+mod grid;
 pub mod inputs;
 mod pilot;
 mod random;

@@ -9,7 +9,8 @@ use Rattle.records.specs.declared.flight.Flown.{Flown}
 use Rattle.records.specs.Flight as records
 use Rattle.records.proofs.Laws.Flight.{empty_flight_writes_nothing}
 use Rattle.fly.specs.declared.flight.Flight.{Flight}
-use Rattle.fly.specs.Flight.{Flies, is_last, all_flown, most_counted, onward}
+use Rattle.buffers.specs.Output.{most_counted}
+use Rattle.fly.specs.Flight.{Flies, is_last, all_flown, onward}
 use Rattle.fly.proofs.Pieces.{appends_more, first_waits, none_left, cut_left, one_piece, rest_of}
 
 -- counts that stop at the same limit

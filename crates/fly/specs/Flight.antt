@@ -1,6 +1,7 @@
 -- A flight after some more records, why it ended, and what its program writes. Assumes nothing.
-use Rattle.std.specs.Prelude.{ℕ, ◌+◌, ◌-◌, ◌^◌, ◌≡◌, min, Bool, true, false, cond, eqb, List, [], ◌∷◌, ◌++◌, length, drop, ◌||◌, Option, Some, None, IfSome, MatchOption}
+use Rattle.std.specs.Prelude.{ℕ, ◌+◌, ◌≡◌, min, Bool, true, false, cond, eqb, List, [], ◌∷◌, ◌++◌, length, drop, ◌||◌, Option, Some, None, IfSome, MatchOption}
 use Rattle.std.specs.Io.KnownBytes.{Appends}
+use Rattle.buffers.specs.Output.{most_counted}
 use Rattle.records.specs.declared.craft.Craft.{Craft}
 use Rattle.records.specs.Flight as records
 use Rattle.fly.specs.declared.ending.Ending.{Ending}
@@ -10,10 +11,6 @@ use Rattle.fly.specs.declared.flight.Flight.{Flight}
 abbrev pub ending : ℕ → List ℕ → Option Ending
 ending at [] = None
 ending at (kind ∷ body) = Some (record { at = at; kind = kind; came = length body })
-
--- no flight counts more bytes
-abbrev pub most_counted : ℕ
-most_counted = 2 ^ 64 - 1
 
 -- What `fly` of the library gives for these bytes: the craft, the answers, the bytes taken, and where it ended, why.
 abbrev pub onward : Flight → List ℕ → Bool → Flight
@@ -40,7 +37,8 @@ abbrev pub all_flown : List ℕ → Bool
 all_flown rest = eqb (length rest) 0 || records.cut_short rest
 
 -- A turn of a flight, from the bytes that it is handed and what the read gave. Where it goes on, it has written the first answers of any file that begins with these
--- bytes, the others are those of the bytes that it leaves and of what follows them, and no record that could be answered is left. Where it stops and is complete, it has written all answers of such a file,
+-- bytes, the others are those of the bytes that it leaves and of what follows them, no record that could be answered is left, and the bytes
+-- that it took are counted, up to the most that is counted. Where it stops and is complete, it has written all answers of such a file,
 -- which goes on behind these bytes only where the read was not the last.
 abbrev pub Flies : Flight → List ℕ → Option ℕ → Option (List ℕ) → Option (List ℕ) → Option ℕ → Flight → Type 0
 Flies before held got out out_after taken after =

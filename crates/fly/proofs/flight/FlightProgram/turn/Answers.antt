@@ -3,7 +3,7 @@ use Rattle.std.proofs.Common.{◌≡◌, ◌≤◌, ◌+◌, refl, sym, ap, ◌�
 use Rattle.std.specs.Prelude.{min}
 use lib.ListN.{length-drop}
 use Rattle.fly.specs.declared.flight.Flight.{Flight}
-use Rattle.fly.specs.Flight.{most_counted}
+use Rattle.buffers.specs.Output.{most_counted}
 use Rattle.fly.proofs.Pieces.{rest_of}
 use Rattle.fly.proofs.Turning.{SoFar, piece, piece_more, piece_ends, turn_over}
 use Rattle.fly.proofs.flight.FlightProgram.turn.Goals as goal

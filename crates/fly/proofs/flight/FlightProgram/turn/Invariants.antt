@@ -1,7 +1,7 @@
 -- `fly`'s turn: what its pieces so far wrote and left. The measure is the bytes left.
 use Rattle.std.proofs.Common.{◌≡◌, ◌≤◌, ◌+◌, false, length, ◌-◌}
 use Rattle.std.specs.Prelude.{min}
-use Rattle.fly.specs.Flight.{most_counted}
+use Rattle.buffers.specs.Output.{most_counted}
 use Rattle.fly.proofs.Turning.{SoFar}
 use Rattle.fly.proofs.flight.FlightProgram.turn.Given as goal
 

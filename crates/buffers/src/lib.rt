@@ -114,6 +114,17 @@ impl<const N: usize> Buffer<N> {
         Ok(before - self.room())
     }
 
+    // Puts bytes that there is room for behind what is held.
+    fn put(&mut self, bytes: &[u8])
+        requires { length self.old + length bytes.now ≤ N }
+        ensures { self.new ≡ self.old ++ bytes.now }
+    {
+        let end = self.held + bytes.len();
+        let all = &mut self.bytes[..];
+        all[self.held..end].copy_from_slice(bytes);
+        self.held = end;
+    }
+
     // Drops the first `count` bytes and moves the others to the start.
     pub fn drop_front(&mut self, count: usize)
         ensures { self.new ≡ drop count self.old }
@@ -145,13 +156,41 @@ impl<const N: usize> Sink for Buffer<N> {
 
     ghost capacity = { N };
 
+    // Bytes that all fit are put by a call of their own, in which the compiler knows how many a caller
+    // appends: a word is then one store.
     fn append(&mut self, bytes: &[u8]) {
-        let count = bytes.len().min(N - self.held);
-        let end = self.held + count;
-        let all = &mut self.bytes[..];
-        all[self.held..end].copy_from_slice(&bytes[..count]);
-        self.held = end;
+        let room = self.room();
+        if bytes.len() <= room {
+            self.put(bytes);
+        } else {
+            self.put(&bytes[..room]);
+        }
     }
+}
+
+// Reads behind the first `held` bytes until the buffer is full, the input ends or a read fails, and gives how
+// many bytes are then held. A `held` past the buffer reads nothing. Public before `Buffer` was, and here the
+// buffer may be of any size and `held` past it.
+pub fn fill<R: Read>(reader: &mut R, bytes: &mut [u8], held: usize) -> usize
+    ensures not_fewer { held ≤ result }
+    ensures within { held ≤ length bytes.old → result ≤ length bytes.old }
+    ensures same_length { length bytes.new ≡ length bytes.old }
+    ensures kept { take held bytes.new ≡ take held bytes.old }
+{
+    let mut filled = held;
+    for _ in 0..bytes.len() {
+        if filled >= bytes.len() {
+            break;
+        }
+        let Ok(got) = reader.read(&mut bytes[filled..]) else {
+            break;
+        };
+        if got == 0 {
+            break;
+        }
+        filled += got;
+    }
+    filled
 }
 
 // Moves the bytes from `from` to `end` to the start. An `end` past the buffer, or a `from` past `end`,

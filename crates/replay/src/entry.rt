@@ -3,6 +3,7 @@
 ghost use Rattle.std.specs.Prelude.{◌≤◌, length};
 
 use altitude::{AltitudeControllerConfig, AltitudeEstimate, AltitudeTarget};
+use floats::bits::from_bits;
 use heading::HeadingConfig;
 use lateral::{LateralControllerConfig, LateralEstimate, LateralTarget};
 use math::vectors::{Quaternion, Vec2, Vec3};
@@ -55,7 +56,7 @@ impl Taken for bool {
 // Every NaN pattern gives a NaN, here and of two words.
 impl Taken for f32 {
     fn taken(entry: &mut Entry<'_>) -> Option<f32> {
-        entry.take().map(floats::bits::from_bits)
+        entry.take().map(from_bits)
     }
 }
 
@@ -67,12 +68,15 @@ impl Taken for f64 {
     }
 }
 
+// The words are split off together, so that one test of the length serves them all.
 impl<const N: usize> Taken for [f32; N] {
     fn taken(entry: &mut Entry<'_>) -> Option<[f32; N]> {
+        let (bytes, left) = entry.left.split_at_checked(N.checked_mul(4)?)?;
         let mut floats = [0.0; N];
-        for float in &mut floats {
-            *float = entry.take()?;
+        for (float, word) in floats.iter_mut().zip(bytes.as_chunks::<4>().0) {
+            *float = from_bits(u32::from_le_bytes(*word));
         }
+        entry.left = left;
         Some(floats)
     }
 }

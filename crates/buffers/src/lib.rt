@@ -114,7 +114,7 @@ impl<const N: usize> Buffer<N> {
         Ok(before - self.room())
     }
 
-    // Puts bytes that there is room for behind what is held.
+    // Puts bytes behind what is held; there is room for them.
     fn put(&mut self, bytes: &[u8])
         requires { length self.old + length bytes.now ≤ N }
         ensures { self.new ≡ self.old ++ bytes.now }
@@ -157,7 +157,7 @@ impl<const N: usize> Sink for Buffer<N> {
     ghost capacity = { N };
 
     // Bytes that all fit are put by a call of their own, in which the compiler knows how many a caller
-    // appends: a word is then one store.
+    // appends: a word can then be one store.
     fn append(&mut self, bytes: &[u8]) {
         let room = self.room();
         if bytes.len() <= room {

@@ -34,7 +34,8 @@ impl Entry<'_> {
     }
 }
 
-// What words are taken for. `Entry::bytes` gives what is promised here, and `Entry::take` hands it on.
+// What words are taken for. `Entry::bytes` and the impl of an array of floats give what is promised here, and
+// `Entry::take` hands it on.
 pub trait Taken: Copy {
     fn taken(entry: &mut Entry<'_>) -> Option<Self>
         ensures { length entry.new.left.now ≤ length entry.old.left.now };
